@@ -1,0 +1,92 @@
+-- Braille ASCII and its inverse.
+use mathlib.Core.List.{List, map}
+use mathlib.Core.Logic.{_⊎_, inl, inr}
+use mathlib.Core.Path.{_≡_, refl, sym, _∙_, ap}
+use Prim.Native.Nat.{ℕ, _+_, _-_, _<_, _≤_}
+use native.Mathlib.Omega.{arith}
+use lib.ListN.{getD, length}
+use Rattle.std.specs.Options.{valueOr}
+use Rattle.std.specs.declared.option.Option.{Option}
+use Rattle.std.specs.declared.option.Option.the-variants.{Some, None}
+use Rattle.std.specs.shelf.Maps.{nth}
+use Rattle.std.proofs.shelf.Maps.{nth-getD, nth-past}
+use Rattle.std.proofs.shelf.Tests.{cases-lt}
+use Rattle.cells.specs.Cells.{characters, byte-of, cell-of, Bijection}
+use Rattle.cells.proofs.Tables.{below, agree, all-within, no-index}
+
+-- the character of a cell, and the cell of the k-th character, as plain numbers
+abbrev pub character : ℕ → ℕ
+character cell = getD characters cell 0
+
+unfoldable pub inverse : List ℕ
+inverse = map (λ k. valueOr (cell-of (k + 32)) 0) (mathlib.Core.List.reverse (below 64))
+
+pub byte-at : (cell : ℕ) → cell < 64 → byte-of cell ≡ Some (character cell)
+unfolding characters byte-of cell-of
+byte-at cell h = nth-getD characters cell 0 h
+
+pub cell-at : (k : ℕ) → k < 64 → cell-of (k + 32) ≡ Some (getD inverse k 0)
+unfolding characters byte-of cell-of inverse
+cell-at k h = agree (λ k. cell-of (k + 32)) (λ k. Some (getD inverse k 0)) 64 refl k h
+
+pub back-to-cell : (cell : ℕ) → cell < 64 → cell-of (character cell) ≡ Some cell
+unfolding characters byte-of cell-of
+back-to-cell cell h = agree (λ c. cell-of (character c)) Some 64 refl cell h
+
+back-to-byte : (k : ℕ) → k < 64 → byte-of (getD inverse k 0) ≡ Some (k + 32)
+unfolding characters byte-of cell-of inverse
+back-to-byte k h = agree (λ k. byte-of (getD inverse k 0)) (λ k. Some (k + 32)) 64 refl k h
+
+pub no-cell : (byte : ℕ) → ((byte < 0x20) ⊎ (0x5F < byte)) → cell-of byte ≡ None
+unfolding characters byte-of cell-of
+no-cell byte out = no-index byte 0x20 0x5F out 0 characters refl
+
+-- the inverse table has the cells, and nothing past them
+pub nth-inverse : (k : ℕ) → nth inverse k ≡ cell-of (k + 32)
+unfolding inverse
+nth-inverse k =
+    elim (cases-lt k 64) [
+      | inl h ↦ nth-getD inverse k 0 h ∙ sym (cell-at k h)
+      | inr h ↦ nth-past inverse k h ∙ sym (no-cell (k + 32) (inr (omega arith)))
+    ]
+
+no-byte : (cell : ℕ) → 64 ≤ cell → byte-of cell ≡ None
+unfolding characters byte-of cell-of
+no-byte cell h = nth-past characters cell h
+
+cell-from-byte : (cell byte : ℕ) → byte-of cell ≡ Some byte → cell-of byte ≡ Some cell
+cell-from-byte cell byte e =
+    elim (cases-lt cell 64) [
+      | inl h ↦ let b = byte-at cell h in let same : byte ≡ character cell = cc in rw same (back-to-cell cell h)
+      | inr h ↦ let n = no-byte cell h in let z : _≡_ {A = ℕ} 0 1 = cc in absurd (omega arith)
+    ]
+
+byte-from-cell : (cell byte : ℕ) → cell-of byte ≡ Some cell → byte-of cell ≡ Some byte
+byte-from-cell cell byte e =
+    elim (cases-lt byte 0x20) [
+      | inl h ↦ let n = no-cell byte (inl h) in let z : _≡_ {A = ℕ} 0 1 = cc in absurd (omega arith)
+      | inr low ↦ elim (cases-lt 0x5F byte) [
+        | inl h ↦ let n = no-cell byte (inr h) in let z : _≡_ {A = ℕ} 0 1 = cc in absurd (omega arith)
+        | inr high ↦
+            let k : byte - 32 < 64 = omega arith in
+            let s : byte - 32 + 32 ≡ byte = omega arith in
+            let c = rw s at (cell-at (byte - 32) k) in
+            let b = rw s at (back-to-byte (byte - 32) k) in
+            let same : cell ≡ getD inverse (byte - 32) 0 = cc in
+            rw same b
+      ]
+    ]
+
+pub bijection : Bijection
+bijection =
+    record {
+      inverse = λ cell byte. (cell-from-byte cell byte, byte-from-cell cell byte);
+      every-cell = λ cell h. (character cell, byte-at cell h);
+      every-byte = λ byte low high.
+        let k : byte - 32 < 64 = omega arith in
+        let s : byte - 32 + 32 ≡ byte = omega arith in
+        (getD inverse (byte - 32) 0, rw s at (cell-at (byte - 32) k));
+      no-other-cell = no-byte;
+      no-lower-byte = λ byte h. no-cell byte (inl h);
+      no-higher-byte = λ byte h. no-cell byte (inr h);
+    }

@@ -1,0 +1,4 @@
+pub mod Items
+pub mod Tables
+pub mod BrailleAscii
+pub mod Groups

@@ -1,0 +1,5 @@
+pub mod Cells
+pub mod Places
+pub mod Carriers
+pub mod Pressing
+pub mod Refusals

@@ -1,0 +1,23 @@
+-- The places of a strip: each holds a cell or is spoilt.
+use mathlib.Core.Bool.{Bool, true, false, cond, _&&_}
+use mathlib.Core.List.{List, [], _∷_}
+use Prim.Native.Nat.{ℕ, suc}
+use Rattle.std.specs.declared.option.Option.{Option}
+use Rattle.std.specs.declared.option.Option.the-variants.{Some, None}
+use Rattle.cells.specs.Cells.{is-cell}
+use Rattle.cells.specs.declared.strip.Place.{Place}
+use Rattle.cells.specs.declared.strip.Place.the-variants.{Cell, Spoilt}
+
+-- a cell of 0 to 63 stands there
+abbrev pub has-cell : Place → Bool
+has-cell (Cell c) = is-cell c
+has-cell Spoilt = false
+
+abbrev pub all-cells : List Place → Bool
+all-cells [] = true
+all-cells (p ∷ ps) = has-cell p && all-cells ps
+
+-- the first place with no cell, where the first of the list counts as n
+abbrev pub first-gap : ℕ → List Place → Option ℕ
+first-gap n [] = None
+first-gap n (p ∷ ps) = cond (has-cell p) (first-gap (suc n) ps) (Some n)

@@ -1,0 +1,31 @@
+-- What an embosser takes: a cell, a list of cells, the places of a strip.
+use mathlib.Core.Bool.{Bool, true, cond, _&&_}
+use mathlib.Core.List.{List, [], _∷_}
+use Prim.Native.Nat.{ℕ}
+use lib.Dec.{leb, ltb}
+use lib.ListN.{length}
+use Rattle.std.specs.declared.option.Option.{Option}
+use Rattle.std.specs.declared.option.Option.the-variants.{Some, None}
+use Rattle.cells.specs.Cells.{is-cell}
+use Rattle.cells.specs.Places.{first-gap}
+use Rattle.cells.specs.Refusals.{Answer, granted, refused}
+use Rattle.cells.specs.declared.strip.Place.{Place}
+
+-- with so many cells free, it takes this number: a cell, and there is room
+abbrev pub takes : ℕ → ℕ → Bool
+takes free n = is-cell n && ltb 0 free
+
+-- it takes these numbers one after the other: all are cells, and there is room for all
+abbrev pub all-are-cells : List ℕ → Bool
+all-are-cells [] = true
+all-are-cells (n ∷ ns) = is-cell n && all-are-cells ns
+
+abbrev pub takes-all : ℕ → List ℕ → Bool
+takes-all free ns = all-are-cells ns && leb (length ns) free
+
+-- it takes all that stands on a strip: no place is without a cell, and there is room for all
+abbrev pub room-for : ℕ → ℕ → Answer
+room-for free cells = cond (leb cells free) (granted cells) (refused 9 cells)
+
+abbrev pub copied : ℕ → List Place → Answer
+copied free places = elim (first-gap 0 places) [ None ↦ room-for free (length places) | Some place ↦ refused 10 place ]

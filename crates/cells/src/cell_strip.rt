@@ -1,0 +1,44 @@
+// A strip over a list of numbers, as cells are pressed and shown.
+ghost use mathlib.Core.Path.{_≡_};
+ghost use lib.ListN.{length};
+ghost use Rattle.cells.specs.Carriers.{cell-place, cell-places};
+use crate::strip::Place;
+use crate::strip::Strip;
+
+fn place_of(number: u8) -> Place
+    ensures { λ r. ⌜ r ≡ cell-place number ⌝ }
+{
+    match number {
+        0..=63 => Place::Cell(number),
+        _ => Place::Spoilt,
+    }
+}
+
+// Lent cells, read; a number above 63 is spoilt.
+#[derive(Clone, Copy)]
+pub struct CellStrip<'a> {
+    cells: &'a [u8],
+}
+
+impl<'a> CellStrip<'a> {
+    pub fn new(cells: &'a [u8]) -> Self
+        ensures { λ r. ⌜ r .cells .now ≡ now (cells .entry) ⌝ }
+    {
+        CellStrip { cells }
+    }
+}
+
+pub impl<'a> Strip for CellStrip<'a> as CellStripStrip {
+    ghost places = { λ s. cell-places (s .cells .now) };
+
+    fn len(&self) -> usize {
+        self.cells.len()
+    }
+
+    fn at(&self, place: usize) -> Option<Place> {
+        match self.cells.get(place) {
+            Some(number) => Some(place_of(*number)),
+            None => None,
+        }
+    }
+}

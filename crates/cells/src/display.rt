@@ -1,0 +1,1 @@
+// A refreshable braille display of 40 cells.

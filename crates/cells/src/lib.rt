@@ -1,0 +1,8 @@
+// Cells, and the strips and embossers that hold them.
+pub mod ascii;
+pub mod ascii_carrier;
+pub mod cell_strip;
+pub mod copy;
+pub mod display;
+pub mod strip;
+pub mod unicode_carrier;
