@@ -1,25 +1,32 @@
 -- Braille ASCII and its inverse.
-use mathlib.Core.List.{List, map}
+use mathlib.Core.Bool.{Bool, true, false}
+use mathlib.Core.List.{List, [], _∷_, _++_, map, reverse}
 use mathlib.Core.Logic.{_⊎_, inl, inr}
 use mathlib.Core.Path.{_≡_, refl, sym, _∙_, ap}
 use Prim.Native.Nat.{ℕ, _+_, _-_, _<_, _≤_}
 use native.Mathlib.Omega.{arith}
-use lib.ListN.{getD, length}
+use lib.ListN.{getD, length, take, set}
 use Rattle.std.specs.Options.{valueOr}
 use Rattle.std.specs.declared.option.Option.{Option}
 use Rattle.std.specs.declared.option.Option.the-variants.{Some, None}
 use Rattle.std.specs.shelf.Maps.{nth}
 use Rattle.std.proofs.shelf.Maps.{nth-getD, nth-past}
-use Rattle.std.proofs.shelf.Tests.{cases-lt}
-use Rattle.cells.specs.Cells.{characters, byte-of, cell-of, Bijection}
+use Rattle.std.specs.Vec.{listOf}
+use Rattle.std.specs.shelf.Lists.{joined}
+use Rattle.std.proofs.shelf.Tests.{cases-lt, lt-ltb, le-ltb, and-parts, false≢true}
+use Rattle.cells.specs.Cells.{is-cell, characters, byte-of, cell-of, Bijection}
+use Rattle.cells.specs.Carriers.{place-of, ascii-place, ascii-places, ascii-bytes}
+use Rattle.cells.specs.Places.{has-cell, all-cells}
+use Rattle.cells.specs.declared.strip.Place.the-variants.{Cell, Spoilt}
 use Rattle.cells.proofs.Tables.{below, agree, all-within, no-index}
+use Rattle.cells.proofs.Memory.{front-more, all-cells-more}
 
 -- the character of a cell, and the cell of the k-th character, as plain numbers
 abbrev pub character : ℕ → ℕ
 character cell = getD characters cell 0
 
 unfoldable pub inverse : List ℕ
-inverse = map (λ k. valueOr (cell-of (k + 32)) 0) (mathlib.Core.List.reverse (below 64))
+inverse = map (λ k. valueOr (cell-of (k + 32)) 0) (reverse (below 64))
 
 pub byte-at : (cell : ℕ) → cell < 64 → byte-of cell ≡ Some (character cell)
 unfolding characters byte-of cell-of
@@ -90,3 +97,44 @@ bijection =
       no-lower-byte = λ byte h. no-cell byte (inl h);
       no-higher-byte = λ byte h. no-cell byte (inr h);
     }
+
+-- whether a number has a character says whether it is a cell
+pub cell-with-byte : (cell byte : ℕ) → Some byte ≡ byte-of cell → is-cell cell ≡ true
+cell-with-byte cell byte e =
+    elim (cases-lt cell 64) [
+      | inl h ↦ lt-ltb cell 64 h
+      | inr h ↦ let n = no-byte cell h in let z : _≡_ {A = ℕ} 0 1 = cc in absurd (omega arith)
+    ]
+
+pub no-cell-without : (cell : ℕ) → None ≡ byte-of cell → is-cell cell ≡ false
+no-cell-without cell e =
+    elim (cases-lt cell 64) [
+      | inl h ↦ let b = byte-at cell h in let z : _≡_ {A = ℕ} 0 1 = cc in absurd (omega arith)
+      | inr h ↦ le-ltb cell 64 h
+    ]
+
+-- a byte that is no spoilt place is the byte of its cell
+pub byte-back : (byte : ℕ) → has-cell (ascii-place byte) ≡ true → ascii-bytes (ascii-place byte) ≡ byte ∷ []
+byte-back byte = of (cell-of byte) refl
+  where
+    of : (o : Option ℕ) → cell-of byte ≡ o → has-cell (place-of o) ≡ true → ascii-bytes (place-of o) ≡ byte ∷ []
+    of None e t = let z : _≡_ {A = Bool} false true = t in absurd (false≢true z)
+    of (Some cell) e t = ap listOf (byte-from-cell cell byte e)
+
+pub all-bytes-back : (bytes : List ℕ) → all-cells (ascii-places bytes) ≡ true → joined ascii-bytes (ascii-places bytes) ≡ bytes
+all-bytes-back [] t = refl
+all-bytes-back (b ∷ bs) t =
+    let p = and-parts (has-cell (ascii-place b)) (all-cells (ascii-places bs)) t in
+    let first = byte-back b (p .0) in
+    let rest = all-bytes-back bs (p .1) in
+    λ i. first i ++ rest i
+
+-- memory with one cell more at its front
+module _ (bytes : List ℕ) (used cell byte : ℕ) (e : Some byte ≡ byte-of cell) (h : used < length bytes) where
+  pub cell-more : ascii-places (take (used + 1) (set bytes used byte)) ≡ ascii-places (take used bytes) ++ Cell cell ∷ []
+  cell-more =
+      front-more ascii-place bytes used byte h
+      ∙ ap (λ p. ascii-places (take used bytes) ++ p ∷ []) (ap place-of (cell-from-byte cell byte (sym e)))
+
+  pub pressed-more : all-cells (ascii-places (take used bytes)) ≡ true → all-cells (ascii-places (take (used + 1) (set bytes used byte))) ≡ true
+  pressed-more t = ap all-cells cell-more ∙ all-cells-more (ascii-places (take used bytes)) (Cell cell) t (cell-with-byte cell byte e)

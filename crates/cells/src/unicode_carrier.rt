@@ -54,3 +54,77 @@ pub impl<'a> Strip for UnicodeStrip<'a> as UnicodeStripStrip {
         Some(first)
     }
 }
+
+// Lent memory, pressed. What it held before is no place, and bytes that are no whole group are never touched.
+#[derive(Drop)]
+pub struct UnicodeTape<'a> {
+    bytes: &'a mut [u8],
+    used: usize,
+    ghost fits: { 3 * used ≤ length (bytes .now) },
+    ghost pressed: { all-cells (unicode-places (take (3 * used) (bytes .now))) ≡ true },
+}
+
+impl<'a> UnicodeTape<'a> {
+    // A bare tape.
+    pub fn new(bytes: &'a mut [u8]) -> Self
+        ensures places { λ r. ⌜ unicode-places (take (3 * r .used) (r .bytes .now)) ≡ [] ⌝ }
+        ensures room { λ r. ⌜ length (r .bytes .now) / 3 - r .used ≡ length (now (bytes .entry)) / 3 ⌝ }
+        ensures unused { λ r. ⌜ drop (3 * r .used) (r .bytes .now) ≡ now (bytes .entry) ⌝ }
+    {
+        UnicodeTape { bytes, used: 0 }
+    }
+
+    // Ends the tape: the number of cells pressed, and the memory, which holds them and behind them what it held before.
+    pub fn finish(self) -> (usize, &'a mut [u8])
+        ensures cells { λ r. ⌜ r .0 ≡ length (unicode-places (take (3 * self .entry .used) (self .entry .bytes .now))) ⌝ }
+        ensures memory { λ r. ⌜ now (r .1) ≡ joined unicode-bytes (unicode-places (take (3 * self .entry .used) (self .entry .bytes .now))) ++ drop (3 * self .entry .used) (self .entry .bytes .now) ⌝ }
+    {
+        let UnicodeTape { bytes, used } = self;
+        (used, bytes)
+    }
+
+    // The cells pressed so far.
+    fn pressed(&self) -> UnicodeStrip<'_>
+        ensures { λ r. ⌜ r .bytes .now ≡ take (3 * now (self .entry) .used) (now (self .entry) .bytes .now) ⌝ }
+    {
+        UnicodeStrip {
+            bytes: &self.bytes[0..3 * self.used],
+        }
+    }
+}
+
+pub impl<'a> Strip for UnicodeTape<'a> as UnicodeTapeStrip {
+    ghost places = { λ s. unicode-places (take (3 * s .used) (s .bytes .now)) };
+
+    fn len(&self) -> usize {
+        self.pressed().len()
+    }
+
+    fn at(&self, place: usize) -> Option<Place> {
+        self.pressed().at(place)
+    }
+}
+
+pub impl<'a> Embosser for UnicodeTape<'a> as UnicodeTapeEmbosser {
+    ghost room = { λ s. length (s .bytes .now) / 3 - s .used };
+
+    ghost unused = { λ s. drop (3 * s .used) (s .bytes .now) };
+
+    ghost width = { 3 };
+
+    fn free(&self) -> usize {
+        self.bytes.len() / 3 - self.used
+    }
+
+    fn press(&mut self, cell: u8) -> bool {
+        if cell > 63 || self.used == self.bytes.len() / 3 {
+            return false;
+        }
+        let start = 3 * self.used;
+        self.bytes[start] = 0xE2;
+        self.bytes[start + 1] = 0xA0;
+        self.bytes[start + 2] = 0x80 + cell;
+        self.used += 1;
+        true
+    }
+}
