@@ -1,5 +1,7 @@
 pub mod Items
 pub mod Tables
+pub mod Memory
 pub mod BrailleAscii
 pub mod Groups
-pub mod Memory
+pub mod Gaps
+pub mod Copies

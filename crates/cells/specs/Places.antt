@@ -21,3 +21,9 @@ all-cells (p ∷ ps) = has-cell p && all-cells ps
 abbrev pub first-gap : ℕ → List Place → Option ℕ
 first-gap n [] = None
 first-gap n (p ∷ ps) = cond (has-cell p) (first-gap (suc n) ps) (Some n)
+
+-- the cell that stands there, if any does
+abbrev pub cell-in : Option Place → Option ℕ
+cell-in None = None
+cell-in (Some (Cell c)) = cond (is-cell c) (Some c) None
+cell-in (Some Spoilt) = None

@@ -23,9 +23,13 @@ all-are-cells (n ∷ ns) = is-cell n && all-are-cells ns
 abbrev pub takes-all : ℕ → List ℕ → Bool
 takes-all free ns = all-are-cells ns && leb (length ns) free
 
--- it takes all that stands on a strip: no place is without a cell, and there is room for all
-abbrev pub room-for : ℕ → ℕ → Answer
-room-for free cells = cond (leb cells free) (granted cells) (refused 9 cells)
+-- a strip is pressed whole or not at all: refused by 10 at its first place with no cell, else by 9 with the cells needed where fewer are free
+abbrev pub unless-gap : Option ℕ → Answer → Answer
+unless-gap None answer = answer
+unless-gap (Some place) answer = refused 10 place
+
+abbrev pub if-room : ℕ → ℕ → Answer
+if-room free cells = cond (leb cells free) (granted cells) (refused 9 cells)
 
 abbrev pub copied : ℕ → List Place → Answer
-copied free places = elim (first-gap 0 places) [ None ↦ room-for free (length places) | Some place ↦ refused 10 place ]
+copied free places = unless-gap (first-gap 0 places) (if-room free (length places))

@@ -2,8 +2,8 @@
 use Prim.Native.Nat.{ℕ}
 use Rattle.std.specs.declared.result.Result.{Result}
 use Rattle.std.specs.declared.result.Result.the-variants.{Ok, Err}
-use Rattle.cells.specs.declared.copy.CopyRefusal.{CopyRefusal}
-use Rattle.cells.specs.declared.copy.CopyRefusal.the-variants.{NoRoomFor, SpoiltAt}
+use Rattle.cells.specs.declared.refusal.CopyRefusal.{CopyRefusal}
+use Rattle.cells.specs.declared.refusal.CopyRefusal.the-variants.{NoRoomFor, SpoiltAt}
 
 pub data Answer : Type 0 where
   granted : ℕ → Answer

@@ -4,5 +4,6 @@ pub mod ascii_carrier;
 pub mod cell_strip;
 pub mod copy;
 pub mod display;
+pub mod refusal;
 pub mod strip;
 pub mod unicode_carrier;
