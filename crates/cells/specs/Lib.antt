@@ -3,3 +3,4 @@ pub mod Places
 pub mod Carriers
 pub mod Pressing
 pub mod Refusals
+pub mod Converting

@@ -74,13 +74,13 @@ impl<'a> UnicodeTape<'a> {
         UnicodeTape { bytes, used: 0 }
     }
 
-    // Ends the tape: the number of cells pressed, and the memory, which holds them and behind them what it held before.
-    pub fn finish(self) -> (usize, &'a mut [u8])
-        ensures cells { λ r. ⌜ r .0 ≡ length (unicode-places (take (3 * self .entry .used) (self .entry .bytes .now))) ⌝ }
-        ensures memory { λ r. ⌜ now (r .1) ≡ joined unicode-bytes (unicode-places (take (3 * self .entry .used) (self .entry .bytes .now))) ++ drop (3 * self .entry .used) (self .entry .bytes .now) ⌝ }
+    // Ends the tape, and parts its memory: what was pressed, and what lies behind that, as it was before.
+    pub fn finish(self) -> (&'a mut [u8], &'a mut [u8])
+        ensures pressed { λ r. ⌜ now (r .0) ≡ joined unicode-bytes (unicode-places (take (3 * self .entry .used) (self .entry .bytes .now))) ⌝ }
+        ensures unused { λ r. ⌜ now (r .1) ≡ drop (3 * self .entry .used) (self .entry .bytes .now) ⌝ }
     {
         let UnicodeTape { bytes, used } = self;
-        (used, bytes)
+        bytes.split_at_mut(3 * used)
     }
 
     // The cells pressed so far.

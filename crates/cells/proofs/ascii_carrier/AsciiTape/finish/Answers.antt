@@ -1,17 +1,14 @@
-use mathlib.Core.List.{_++_}
-use mathlib.Core.Path.{sym, ap, _∙_}
-use lib.ListN.{take, drop}
-use Rattle.std.proofs.shelf.Lists.{take-append-drop}
-use Rattle.cells.specs.Carriers.{ascii-place}
+use mathlib.Core.Path.{sym, _∙_}
+use lib.ListN.{take}
+use denote.Ref.{now}
 use Rattle.cells.proofs.BrailleAscii.{all-bytes-back}
-use Rattle.cells.proofs.Memory.{front-length}
+use Rattle.cells.proofs.Memory.{split-parts}
 use Rattle.cells.proofs.ascii_carrier.AsciiTape.finish.Needs as need
 
 pub returns : need.returns
 returns c =
     let bytes = c .args .self .bytes .now in
     let used = c .args .self .used in
-    record {
-      cells = sym (front-length ascii-place bytes used (c .args .self .fits));
-      memory = sym (ap (λ front. front ++ drop used bytes) (all-bytes-back (take used bytes) (c .args .self .pressed)) ∙ take-append-drop used bytes);
-    }
+    let parts = c .split-at-mut .result in
+    let p = split-parts bytes (now (parts .0)) (now (parts .1)) used (c .split-at-mut .ensures .value) (c .split-at-mut .ensures .front-len) in
+    record { pressed = p .0 ∙ sym (all-bytes-back (take used bytes) (c .args .self .pressed)); unused = p .1 }

@@ -1,17 +1,15 @@
-use mathlib.Core.List.{_++_}
-use mathlib.Core.Path.{sym, ap, _∙_}
+use mathlib.Core.Path.{sym, _∙_}
 use Prim.Native.Nat.{_*_}
-use lib.ListN.{take, drop}
-use Rattle.std.proofs.shelf.Lists.{take-append-drop}
-use Rattle.cells.proofs.Groups.{all-groups-back, front-length}
+use lib.ListN.{take}
+use denote.Ref.{now}
+use Rattle.cells.proofs.Groups.{all-groups-back}
+use Rattle.cells.proofs.Memory.{split-parts}
 use Rattle.cells.proofs.unicode_carrier.UnicodeTape.finish.Needs as need
 
 pub returns : need.returns
 returns c =
     let bytes = c .args .self .bytes .now in
     let used = c .args .self .used in
-    record {
-      cells = sym (front-length bytes used 0 (c .args .self .fits));
-      memory =
-        sym (ap (λ front. front ++ drop (3 * used) bytes) (all-groups-back (take (3 * used) bytes) (c .args .self .pressed)) ∙ take-append-drop (3 * used) bytes);
-    }
+    let parts = c .split-at-mut .result in
+    let p = split-parts bytes (now (parts .0)) (now (parts .1)) (3 * used) (c .split-at-mut .ensures .value) (c .split-at-mut .ensures .front-len) in
+    record { pressed = p .0 ∙ sym (all-groups-back (take (3 * used) bytes) (c .args .self .pressed)); unused = p .1 }
