@@ -15,11 +15,7 @@ use Rattle.std.specs.Vec.{listOf}
 use Rattle.std.specs.shelf.Lists.{joined}
 use Rattle.std.proofs.shelf.Tests.{cases-lt, lt-ltb, le-ltb, and-parts, false≢true}
 use Rattle.cells.specs.Cells.{is-cell, characters, byte-of, cell-of, Bijection}
-use Rattle.cells.specs.Carriers.{place-of, ascii-place, ascii-places, ascii-bytes}
-use Rattle.cells.specs.Places.{has-cell, all-cells}
-use Rattle.cells.specs.declared.strip.Place.the-variants.{Cell, Spoilt}
 use Rattle.cells.proofs.Tables.{below, agree, all-within, no-index}
-use Rattle.cells.proofs.Memory.{front-more, all-cells-more}
 
 -- the character of a cell, and the cell of the k-th character, as plain numbers
 abbrev pub character : ℕ → ℕ
@@ -61,14 +57,14 @@ no-byte : (cell : ℕ) → 64 ≤ cell → byte-of cell ≡ None
 unfolding characters byte-of cell-of
 no-byte cell h = nth-past characters cell h
 
-cell-from-byte : (cell byte : ℕ) → byte-of cell ≡ Some byte → cell-of byte ≡ Some cell
+pub cell-from-byte : (cell byte : ℕ) → byte-of cell ≡ Some byte → cell-of byte ≡ Some cell
 cell-from-byte cell byte e =
     elim (cases-lt cell 64) [
       | inl h ↦ let b = byte-at cell h in let same : byte ≡ character cell = cc in rw same (back-to-cell cell h)
       | inr h ↦ let n = no-byte cell h in let z : _≡_ {A = ℕ} 0 1 = cc in absurd (omega arith)
     ]
 
-byte-from-cell : (cell byte : ℕ) → cell-of byte ≡ Some cell → byte-of cell ≡ Some byte
+pub byte-from-cell : (cell byte : ℕ) → cell-of byte ≡ Some cell → byte-of cell ≡ Some byte
 byte-from-cell cell byte e =
     elim (cases-lt byte 0x20) [
       | inl h ↦ let n = no-cell byte (inl h) in let z : _≡_ {A = ℕ} 0 1 = cc in absurd (omega arith)
@@ -112,29 +108,3 @@ no-cell-without cell e =
       | inl h ↦ let b = byte-at cell h in let z : _≡_ {A = ℕ} 0 1 = cc in absurd (omega arith)
       | inr h ↦ le-ltb cell 64 h
     ]
-
--- a byte that is no spoilt place is the byte of its cell
-pub byte-back : (byte : ℕ) → has-cell (ascii-place byte) ≡ true → ascii-bytes (ascii-place byte) ≡ byte ∷ []
-byte-back byte = of (cell-of byte) refl
-  where
-    of : (o : Option ℕ) → cell-of byte ≡ o → has-cell (place-of o) ≡ true → ascii-bytes (place-of o) ≡ byte ∷ []
-    of None e t = let z : _≡_ {A = Bool} false true = t in absurd (false≢true z)
-    of (Some cell) e t = ap listOf (byte-from-cell cell byte e)
-
-pub all-bytes-back : (bytes : List ℕ) → all-cells (ascii-places bytes) ≡ true → joined ascii-bytes (ascii-places bytes) ≡ bytes
-all-bytes-back [] t = refl
-all-bytes-back (b ∷ bs) t =
-    let p = and-parts (has-cell (ascii-place b)) (all-cells (ascii-places bs)) t in
-    let first = byte-back b (p .0) in
-    let rest = all-bytes-back bs (p .1) in
-    λ i. first i ++ rest i
-
--- memory with one cell more at its front
-module _ (bytes : List ℕ) (used cell byte : ℕ) (e : Some byte ≡ byte-of cell) (h : used < length bytes) where
-  pub cell-more : ascii-places (take (used + 1) (set bytes used byte)) ≡ ascii-places (take used bytes) ++ Cell cell ∷ []
-  cell-more =
-      front-more ascii-place bytes used byte h
-      ∙ ap (λ p. ascii-places (take used bytes) ++ p ∷ []) (ap place-of (cell-from-byte cell byte (sym e)))
-
-  pub pressed-more : all-cells (ascii-places (take used bytes)) ≡ true → all-cells (ascii-places (take (used + 1) (set bytes used byte))) ≡ true
-  pressed-more t = ap all-cells cell-more ∙ all-cells-more (ascii-places (take used bytes)) (Cell cell) t (cell-with-byte cell byte e)

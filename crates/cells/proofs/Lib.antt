@@ -2,6 +2,5 @@ pub mod Items
 pub mod Tables
 pub mod Memory
 pub mod BrailleAscii
-pub mod Groups
 pub mod Gaps
 pub mod Copies

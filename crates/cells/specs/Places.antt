@@ -1,6 +1,6 @@
 -- The places of a strip: each holds a cell or is spoilt.
 use mathlib.Core.Bool.{Bool, true, false, cond, _&&_}
-use mathlib.Core.List.{List, [], _∷_}
+use mathlib.Core.List.{List, [], _∷_, map}
 use Prim.Native.Nat.{ℕ, suc}
 use Rattle.std.specs.declared.option.Option.{Option}
 use Rattle.std.specs.declared.option.Option.the-variants.{Some, None}
@@ -27,3 +27,10 @@ abbrev pub cell-in : Option Place → Option ℕ
 cell-in None = None
 cell-in (Some (Cell c)) = cond (is-cell c) (Some c) None
 cell-in (Some Spoilt) = None
+
+-- a list of numbers as a strip; one that is no cell is spoilt
+abbrev pub cell-place : ℕ → Place
+cell-place n = cond (is-cell n) (Cell n) Spoilt
+
+abbrev pub cell-places : List ℕ → List Place
+cell-places numbers = map cell-place numbers

@@ -1,6 +1,6 @@
 use mathlib.Core.Path.{ap, _∙_}
 use Rattle.std.specs.declared.option.Option.the-variants.{Some, None}
-use Rattle.cells.specs.Carriers.{cell-place}
+use Rattle.cells.specs.Places.{cell-place}
 use Rattle.cells.proofs.Items.{item-map}
 use Rattle.cells.proofs.cell_strip.CellStripStrip.at.Needs as need
 

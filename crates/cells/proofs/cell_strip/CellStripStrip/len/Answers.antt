@@ -1,6 +1,6 @@
 use mathlib.Core.Path.{sym}
 use Rattle.std.proofs.shelf.Lists.{length-map}
-use Rattle.cells.specs.Carriers.{cell-place}
+use Rattle.cells.specs.Places.{cell-place}
 use Rattle.cells.proofs.cell_strip.CellStripStrip.len.Needs as need
 
 pub returns : need.returns

@@ -1,0 +1,2 @@
+pub mod AsciiBytes
+pub mod UnicodeBytes

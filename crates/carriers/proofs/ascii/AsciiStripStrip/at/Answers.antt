@@ -1,0 +1,13 @@
+use mathlib.Core.Path.{ap, _∙_}
+use Rattle.std.specs.declared.option.Option.the-variants.{Some, None}
+use Rattle.carriers.specs.Carriers.{ascii-place}
+use Rattle.cells.proofs.Items.{item-map}
+use Rattle.carriers.proofs.ascii.AsciiStripStrip.at.Needs as need
+
+pub returns-in-Some : need.returns-in-Some
+returns-in-Some c =
+    ap Some (c .place-of .ensures)
+    ∙ item-map ascii-place (c .args .self .now .bytes .now) (c .args .place) (Some (c .in-Some .byte)) (c .in-Some .ensures tt .finds)
+
+pub returns-in-None : need.returns-in-None
+returns-in-None c = item-map ascii-place (c .args .self .now .bytes .now) (c .args .place) None (c .in-None .ensures tt .finds)

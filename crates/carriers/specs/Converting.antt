@@ -1,0 +1,25 @@
+-- A strip pressed on a bare tape of either carrier: the bytes that are answered, or the refusal.
+use mathlib.Core.List.{List}
+use Prim.Native.Nat.{ℕ, _/_}
+use denote.Ref.{RefT, now}
+use Rattle.std.specs.declared.result.Result.{Result}
+use Rattle.std.specs.declared.result.Result.the-variants.{Ok, Err}
+use Rattle.std.specs.shelf.Lists.{joined}
+use Rattle.carriers.specs.Carriers.{bytes-a-cell, carrier-bytes}
+use Rattle.cells.specs.Pressing.{copied}
+use Rattle.cells.specs.Refusals.{Answer, granted, refused, refusal}
+use Rattle.carriers.specs.declared.carrier.Carrier.{Carrier}
+use Rattle.cells.specs.declared.refusal.CopyRefusal.{CopyRefusal}
+use Rattle.cells.specs.declared.strip.Place.{Place}
+
+abbrev pub bytes-told : Result (RefT (List ℕ)) CopyRefusal → Result (List ℕ) Answer
+bytes-told (Ok bytes) = Ok (now bytes)
+bytes-told (Err r) = Err (refusal r)
+
+abbrev pub when-granted : List ℕ → Answer → Result (List ℕ) Answer
+when-granted bytes (granted cells) = Ok bytes
+when-granted bytes (refused number value) = Err (refused number value)
+
+-- in memory of so many bytes
+abbrev pub embossed : Carrier → ℕ → List Place → Result (List ℕ) Answer
+embossed to size places = when-granted (joined (carrier-bytes to) places) (copied (size / bytes-a-cell to) places)

@@ -1,7 +1,0 @@
-use mathlib.Core.Path.{sym}
-use Rattle.std.proofs.shelf.Lists.{length-map}
-use Rattle.cells.specs.Carriers.{ascii-place}
-use Rattle.cells.proofs.ascii_carrier.AsciiStripStrip.len.Needs as need
-
-pub returns : need.returns
-returns c = sym (length-map (c .args .self .now .bytes .now) ascii-place)
