@@ -7,8 +7,6 @@ use Rattle.std.specs.Vec.{listOf}
 use Rattle.std.specs.declared.option.Option.{Option}
 use Rattle.std.specs.declared.option.Option.the-variants.{Some, None}
 use Rattle.cells.specs.Cells.{byte-of, cell-of}
-use Rattle.carriers.specs.declared.carrier.Carrier.{Carrier}
-use Rattle.carriers.specs.declared.carrier.Carrier.the-variants.{Ascii, Unicode}
 use Rattle.cells.specs.declared.strip.Place.{Place}
 use Rattle.cells.specs.declared.strip.Place.the-variants.{Cell, Spoilt}
 
@@ -48,16 +46,3 @@ first-group [] = None
 first-group (a ∷ []) = Some (Spoilt, [])
 first-group (a ∷ b ∷ []) = Some (Spoilt, [])
 first-group (a ∷ b ∷ c ∷ rest) = Some (unicode-place a b c, rest)
-
--- either carrier by name
-abbrev pub bytes-a-cell : Carrier → ℕ
-bytes-a-cell Ascii = 1
-bytes-a-cell Unicode = 3
-
-abbrev pub carrier-places : Carrier → List ℕ → List Place
-carrier-places Ascii bytes = ascii-places bytes
-carrier-places Unicode bytes = unicode-places bytes
-
-abbrev pub carrier-bytes : Carrier → Place → List ℕ
-carrier-bytes Ascii place = ascii-bytes place
-carrier-bytes Unicode place = unicode-bytes place

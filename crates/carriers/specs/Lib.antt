@@ -1,2 +1,1 @@
 pub mod Carriers
-pub mod Converting

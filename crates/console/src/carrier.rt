@@ -2,7 +2,7 @@
 ghost use mathlib.Core.Path.{_≡_};
 ghost use Prim.Native.Nat.{_*_};
 ghost use lib.ListN.{take, drop};
-ghost use Rattle.carriers.specs.Carriers.{bytes-a-cell};
+ghost use Rattle.console.specs.Converting.{bytes-a-cell};
 
 #[derive(Clone, Copy, PartialEq, Eq, Debug)]
 pub enum Carrier {

@@ -2,9 +2,9 @@ use mathlib.Core.Path.{_≡_, ap}
 use Prim.Native.Nat.{min, _+_, _*_}
 use native.Mathlib.Omega.{arith}
 use lib.ListN.{length}
-use Rattle.carriers.specs.Carriers.{bytes-a-cell}
+use Rattle.console.specs.Converting.{bytes-a-cell}
 use Rattle.cells.proofs.Memory.{part-to-end}
-use Rattle.carriers.proofs.carrier.Carrier.group.Needs as need
+use Rattle.console.proofs.carrier.Carrier.group.Needs as need
 
 pub returns : need.returns
 returns c =

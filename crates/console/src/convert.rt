@@ -1,22 +1,22 @@
 // A tape in the one carrier, pressed again in the other.
 ghost use mathlib.Core.Path.{_≡_};
 ghost use lib.ListN.{length};
-ghost use Rattle.carriers.specs.Carriers.{carrier-places};
-ghost use Rattle.carriers.specs.Converting.{embossed, bytes-told};
-use crate::ascii::AsciiStrip;
-use crate::ascii::AsciiStripStrip;
-use crate::ascii::AsciiTape;
-use crate::ascii::AsciiTapeEmbosser;
-use crate::ascii::AsciiTapeStrip;
+ghost use Rattle.console.specs.Converting.{carrier-places};
+ghost use Rattle.console.specs.Converting.{embossed, bytes-told};
+use carriers::ascii::AsciiStrip;
+use carriers::ascii::AsciiStripStrip;
+use carriers::ascii::AsciiTape;
+use carriers::ascii::AsciiTapeEmbosser;
+use carriers::ascii::AsciiTapeStrip;
 use crate::carrier::Carrier;
 use cells::copy::copy_strip;
 use cells::refusal::CopyRefusal;
 use cells::strip::Strip;
-use crate::unicode::UnicodeStrip;
-use crate::unicode::UnicodeStripStrip;
-use crate::unicode::UnicodeTape;
-use crate::unicode::UnicodeTapeEmbosser;
-use crate::unicode::UnicodeTapeStrip;
+use carriers::unicode::UnicodeStrip;
+use carriers::unicode::UnicodeStripStrip;
+use carriers::unicode::UnicodeTape;
+use carriers::unicode::UnicodeTapeEmbosser;
+use carriers::unicode::UnicodeTapeStrip;
 
 // Presses all that stands on a strip on a bare tape over this memory, and answers the bytes pressed.
 pub fn emboss<'a, S: Strip>(strip: &S, to: Carrier, memory: &'a mut [u8]) -> Result<&'a mut [u8], CopyRefusal>

@@ -1,0 +1,3 @@
+// What the commands of the program do, as functions on values.
+pub mod carrier;
+pub mod convert;
