@@ -67,14 +67,14 @@ group-back : (a b c : ℕ) → has-cell (unicode-place a b c) ≡ true → unico
 group-back a b c =
     cond-both (eqb a 0xE2 && (eqb b 0xA0 && (leb 0x80 c && leb c 0xBF))) (Cell (c - 0x80)) Spoilt (λ (p : Place). has-cell p ≡ true → unicode-bytes p ≡ a ∷ b ∷ c ∷ [])
     (λ t h.
-        let p = and-parts (eqb a 0xE2) (eqb b 0xA0 && (leb 0x80 c && leb c 0xBF)) t in
-        let q = and-parts (eqb b 0xA0) (leb 0x80 c && leb c 0xBF) (p .1) in
-        let r = and-parts (leb 0x80 c) (leb c 0xBF) (q .1) in
-        let low : 0x80 ≤ c = leb-true 0x80 c (r .0) in
-        let first : 0xE2 ≡ a = sym (eqb-true a 0xE2 (p .0)) in
-        let second : 0xA0 ≡ b = sym (eqb-true b 0xA0 (q .0)) in
-        let third : 0x80 + (c - 0x80) ≡ c = omega arith in
-        λ i. first i ∷ second i ∷ third i ∷ [])
+    let p = and-parts (eqb a 0xE2) (eqb b 0xA0 && (leb 0x80 c && leb c 0xBF)) t in
+    let q = and-parts (eqb b 0xA0) (leb 0x80 c && leb c 0xBF) (p .1) in
+    let r = and-parts (leb 0x80 c) (leb c 0xBF) (q .1) in
+    let low : 0x80 ≤ c = leb-true 0x80 c (r .0) in
+    let first : 0xE2 ≡ a = sym (eqb-true a 0xE2 (p .0)) in
+    let second : 0xA0 ≡ b = sym (eqb-true b 0xA0 (q .0)) in
+    let third : 0x80 + (c - 0x80) ≡ c = omega arith in
+    λ i. first i ∷ second i ∷ third i ∷ [])
     (λ f h. absurd (false≢true h))
 
 pub all-groups-back : (bytes : List ℕ) → all-cells (unicode-places bytes) ≡ true → joined unicode-bytes (unicode-places bytes) ≡ bytes

@@ -23,27 +23,17 @@ fn place_of(byte: u8) -> Place
 
 // Lent bytes, read.
 #[derive(Clone, Copy)]
-pub struct AsciiStrip<'a> {
-    bytes: &'a [u8],
-}
-
-impl<'a> AsciiStrip<'a> {
-    pub fn new(bytes: &'a [u8]) -> Self
-        ensures { λ r. ⌜ r .bytes .now ≡ now (bytes .entry) ⌝ }
-    {
-        AsciiStrip { bytes }
-    }
-}
+pub struct AsciiStrip<'a>(pub &'a [u8]);
 
 pub impl<'a> Strip for AsciiStrip<'a> as AsciiStripStrip {
-    ghost places = { λ s. ascii-places (s .bytes .now) };
+    ghost places = { λ s. ascii-places (s .0 .now) };
 
     fn len(&self) -> usize {
-        self.bytes.len()
+        self.0.len()
     }
 
     fn at(&self, place: usize) -> Option<Place> {
-        match self.bytes.get(place) {
+        match self.0.get(place) {
             Some(byte) => Some(place_of(*byte)),
             None => None,
         }
@@ -80,11 +70,9 @@ impl<'a> AsciiTape<'a> {
 
     // The cells pressed so far.
     fn pressed(&self) -> AsciiStrip<'_>
-        ensures { λ r. ⌜ r .bytes .now ≡ take (now (self .entry) .used) (now (self .entry) .bytes .now) ⌝ }
+        ensures { λ r. ⌜ r .0 .now ≡ take (now (self .entry) .used) (now (self .entry) .bytes .now) ⌝ }
     {
-        AsciiStrip {
-            bytes: &self.bytes[0..self.used],
-        }
+        AsciiStrip(&self.bytes[0..self.used])
     }
 }
 

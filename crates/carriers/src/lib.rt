@@ -1,4 +1,3 @@
-// The carriers of a tape, ASCII and Unicode, and the braille display.
+// The carriers of a tape: ASCII and Unicode.
 pub mod ascii;
-pub mod display;
 pub mod unicode;

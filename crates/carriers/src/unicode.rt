@@ -15,9 +15,7 @@ use cells::strip::Strip;
 
 // Lent bytes, read.
 #[derive(Clone, Copy)]
-pub struct UnicodeStrip<'a> {
-    bytes: &'a [u8],
-}
+pub struct UnicodeStrip<'a>(pub &'a [u8]);
 
 // The first place of a carrier, and the rest of the carrier behind it.
 fn take_group(bytes: &[u8]) -> Option<(Place, &[u8])>
@@ -31,26 +29,18 @@ fn take_group(bytes: &[u8]) -> Option<(Place, &[u8])>
     }
 }
 
-impl<'a> UnicodeStrip<'a> {
-    pub fn new(bytes: &'a [u8]) -> Self
-        ensures { λ r. ⌜ r .bytes .now ≡ now (bytes .entry) ⌝ }
-    {
-        UnicodeStrip { bytes }
-    }
-}
-
 pub impl<'a> Strip for UnicodeStrip<'a> as UnicodeStripStrip {
-    ghost places = { λ s. unicode-places (s .bytes .now) };
+    ghost places = { λ s. unicode-places (s .0 .now) };
 
     fn len(&self) -> usize {
-        self.bytes.len().div_ceil(3)
+        self.0.len().div_ceil(3)
     }
 
     fn at(&self, place: usize) -> Option<Place> {
-        if place > self.bytes.len() / 3 {
+        if place > self.0.len() / 3 {
             return None;
         }
-        let (first, _rest) = take_group(&self.bytes[3 * place..])?;
+        let (first, _rest) = take_group(&self.0[3 * place..])?;
         Some(first)
     }
 }
@@ -85,11 +75,9 @@ impl<'a> UnicodeTape<'a> {
 
     // The cells pressed so far.
     fn pressed(&self) -> UnicodeStrip<'_>
-        ensures { λ r. ⌜ r .bytes .now ≡ take (3 * now (self .entry) .used) (now (self .entry) .bytes .now) ⌝ }
+        ensures { λ r. ⌜ r .0 .now ≡ take (3 * now (self .entry) .used) (now (self .entry) .bytes .now) ⌝ }
     {
-        UnicodeStrip {
-            bytes: &self.bytes[0..3 * self.used],
-        }
+        UnicodeStrip(&self.bytes[0..3 * self.used])
     }
 }
 

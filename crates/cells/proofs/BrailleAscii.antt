@@ -86,9 +86,9 @@ bijection =
       inverse = λ cell byte. (cell-from-byte cell byte, byte-from-cell cell byte);
       every-cell = λ cell h. (character cell, byte-at cell h);
       every-byte = λ byte low high.
-        let k : byte - 32 < 64 = omega arith in
-        let s : byte - 32 + 32 ≡ byte = omega arith in
-        (getD inverse (byte - 32) 0, rw s at (cell-at (byte - 32) k));
+          let k : byte - 32 < 64 = omega arith in
+          let s : byte - 32 + 32 ≡ byte = omega arith in
+          (getD inverse (byte - 32) 0, rw s at (cell-at (byte - 32) k));
       no-other-cell = no-byte;
       no-lower-byte = λ byte h. no-cell byte (inl h);
       no-higher-byte = λ byte h. no-cell byte (inr h);

@@ -16,27 +16,17 @@ fn place_of(number: u8) -> Place
 
 // Lent cells, read; a number above 63 is spoilt.
 #[derive(Clone, Copy)]
-pub struct CellStrip<'a> {
-    cells: &'a [u8],
-}
-
-impl<'a> CellStrip<'a> {
-    pub fn new(cells: &'a [u8]) -> Self
-        ensures { λ r. ⌜ r .cells .now ≡ now (cells .entry) ⌝ }
-    {
-        CellStrip { cells }
-    }
-}
+pub struct CellStrip<'a>(pub &'a [u8]);
 
 pub impl<'a> Strip for CellStrip<'a> as CellStripStrip {
-    ghost places = { λ s. cell-places (s .cells .now) };
+    ghost places = { λ s. cell-places (s .0 .now) };
 
     fn len(&self) -> usize {
-        self.cells.len()
+        self.0.len()
     }
 
     fn at(&self, place: usize) -> Option<Place> {
-        match self.cells.get(place) {
+        match self.0.get(place) {
             Some(number) => Some(place_of(*number)),
             None => None,
         }

@@ -69,5 +69,5 @@ pub fn press_all<E: Embosser>(cells: &[u8], to: &mut E) -> bool
     ensures room { λ r. ⌜ E·Embosser .room (now (to .exit)) ≡ cond r (E·Embosser .room (now (to .entry)) - length (now (cells .entry))) (E·Embosser .room (now (to .entry))) ⌝ }
     ensures unused { λ r. ⌜ E·Embosser .unused (now (to .exit)) ≡ cond r (drop (length (now (cells .entry)) * E·Embosser .width) (E·Embosser .unused (now (to .entry)))) (E·Embosser .unused (now (to .entry))) ⌝ }
 {
-    copy_strip(&CellStrip::new(cells), to).is_ok()
+    copy_strip(&CellStrip(cells), to).is_ok()
 }

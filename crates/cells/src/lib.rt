@@ -2,5 +2,6 @@
 pub mod ascii;
 pub mod cell_strip;
 pub mod copy;
+pub mod display;
 pub mod refusal;
 pub mod strip;

@@ -3,23 +3,27 @@ ghost use mathlib.Core.Path.{_≡_};
 ghost use lib.ListN.{length};
 ghost use Rattle.console.specs.Converting.{carrier-places};
 ghost use Rattle.console.specs.Converting.{embossed, bytes-told};
+use crate::carrier::Carrier;
 use carriers::ascii::AsciiStrip;
 use carriers::ascii::AsciiStripStrip;
 use carriers::ascii::AsciiTape;
 use carriers::ascii::AsciiTapeEmbosser;
 use carriers::ascii::AsciiTapeStrip;
-use crate::carrier::Carrier;
-use cells::copy::copy_strip;
-use cells::refusal::CopyRefusal;
-use cells::strip::Strip;
 use carriers::unicode::UnicodeStrip;
 use carriers::unicode::UnicodeStripStrip;
 use carriers::unicode::UnicodeTape;
 use carriers::unicode::UnicodeTapeEmbosser;
 use carriers::unicode::UnicodeTapeStrip;
+use cells::copy::copy_strip;
+use cells::refusal::CopyRefusal;
+use cells::strip::Strip;
 
 // Presses all that stands on a strip on a bare tape over this memory, and answers the bytes pressed.
-pub fn emboss<'a, S: Strip>(strip: &S, to: Carrier, memory: &'a mut [u8]) -> Result<&'a mut [u8], CopyRefusal>
+pub fn emboss<'a, S: Strip>(
+    strip: &S,
+    to: Carrier,
+    memory: &'a mut [u8],
+) -> Result<&'a mut [u8], CopyRefusal>
     ensures { λ r. ⌜ bytes-told r ≡ embossed to (length (now (memory .entry))) (S·Strip .places (now (strip .entry))) ⌝ }
 {
     match to {
@@ -39,11 +43,16 @@ pub fn emboss<'a, S: Strip>(strip: &S, to: Carrier, memory: &'a mut [u8]) -> Res
 }
 
 // Presses the tape that one carrier's bytes are on a bare tape of the other.
-pub fn convert<'a>(from: Carrier, bytes: &[u8], to: Carrier, memory: &'a mut [u8]) -> Result<&'a mut [u8], CopyRefusal>
+pub fn convert<'a>(
+    from: Carrier,
+    bytes: &[u8],
+    to: Carrier,
+    memory: &'a mut [u8],
+) -> Result<&'a mut [u8], CopyRefusal>
     ensures { λ r. ⌜ bytes-told r ≡ embossed to (length (now (memory .entry))) (carrier-places from (now (bytes .entry))) ⌝ }
 {
     match from {
-        Carrier::Ascii => emboss(&AsciiStrip::new(bytes), to, memory),
-        Carrier::Unicode => emboss(&UnicodeStrip::new(bytes), to, memory),
+        Carrier::Ascii => emboss(&AsciiStrip(bytes), to, memory),
+        Carrier::Unicode => emboss(&UnicodeStrip(bytes), to, memory),
     }
 }

@@ -30,7 +30,7 @@ loop-place-again g c =
     let h : i < length ps = omega (arith, c .len-cells .ensures) in
     let room : 0 < g .E·Embosser .room (c .loop-place .to) = omega (arith, inv .1, c .free .ensures) in
     let yes : c .press .result ≡ true =
-      c .press .ensures .answer ∙ and-from _ _ (cell-found (nth ps i) cell (c .in-Some-cell-at .ensures tt) .1) (lt-ltb 0 _ room) in
+    c .press .ensures .answer ∙ and-from _ _ (cell-found (nth ps i) cell (c .in-Some-cell-at .ensures tt) .1) (lt-ltb 0 _ room) in
     let less : g .E·Embosser .room (c .press .last .self) ≡ g .E·Embosser .room (c .loop-place .to) - 1 = c .press .ensures .room ∙ cond-true _ _ _ yes in (
       c .press .ensures .places ∙ cond-true _ _ _ yes ∙ ap (λ p. p ++ Cell cell ∷ []) (inv .0) ∙ place-more (g .E·Strip .places (c .args .to .now)) ps i cell h (c .in-Some-cell-at .ensures tt),
       omega (arith, less, inv .1),

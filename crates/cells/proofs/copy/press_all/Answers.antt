@@ -17,14 +17,13 @@ returns g c =
     let spare = g .E·Embosser .unused (c .args .to .now) in
     let width = g .E·Embosser .width in
     let r = c .is-ok .result in
-    let asked = c .new .ensures in
-    let sized : length (cell-places (c .new .result .cells .now)) ≡ length ns = length-map (c .new .result .cells .now) cell-place ∙ ap length asked in
+    let sized : length (cell-places ns) ≡ length ns = length-map ns cell-place in
     let ok = sym (c .is-ok .ensures .value) in
     let answer : r ≡ takes-all free ns =
-      sym ok ∙ sym (granted-ok (c .copy-strip .result)) ∙ ap is-granted (c .copy-strip .ensures .answer) ∙ ap (λ l. is-granted (copied free (cell-places l))) asked ∙ list-copied free ns in
+    sym ok ∙ sym (granted-ok (c .copy-strip .result)) ∙ ap is-granted (c .copy-strip .ensures .answer) ∙ list-copied free ns in
     record {
       answer = answer;
-      places = c .copy-strip .ensures .places ∙ (λ i. cond (ok i) (old ++ cell-places (asked i)) old) ∙ list-places r free old ns answer;
+      places = c .copy-strip .ensures .places ∙ (λ i. cond (ok i) (old ++ cell-places ns) old) ∙ list-places r free old ns answer;
       room = c .copy-strip .ensures .room ∙ (λ i. cond (ok i) (free - sized i) free);
       unused = c .copy-strip .ensures .unused ∙ (λ i. cond (ok i) (drop (sized i * width) spare) spare);
     }

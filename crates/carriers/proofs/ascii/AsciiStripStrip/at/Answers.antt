@@ -7,7 +7,7 @@ use Rattle.carriers.proofs.ascii.AsciiStripStrip.at.Needs as need
 pub returns-in-Some : need.returns-in-Some
 returns-in-Some c =
     ap Some (c .place-of .ensures)
-    ∙ item-map ascii-place (c .args .self .now .bytes .now) (c .args .place) (Some (c .in-Some .byte)) (c .in-Some .ensures tt .finds)
+    ∙ item-map ascii-place (c .args .self .now .0 .now) (c .args .place) (Some (c .in-Some .byte)) (c .in-Some .ensures tt .finds)
 
 pub returns-in-None : need.returns-in-None
-returns-in-None c = item-map ascii-place (c .args .self .now .bytes .now) (c .args .place) None (c .in-None .ensures tt .finds)
+returns-in-None c = item-map ascii-place (c .args .self .now .0 .now) (c .args .place) None (c .in-None .ensures tt .finds)

@@ -4,4 +4,4 @@ use Rattle.carriers.specs.Carriers.{ascii-place}
 use Rattle.carriers.proofs.ascii.AsciiStripStrip.len.Needs as need
 
 pub returns : need.returns
-returns c = sym (length-map (c .args .self .now .bytes .now) ascii-place)
+returns c = sym (length-map (c .args .self .now .0 .now) ascii-place)

@@ -4,4 +4,4 @@ use Rattle.cells.specs.Places.{cell-place}
 use Rattle.cells.proofs.cell_strip.CellStripStrip.len.Needs as need
 
 pub returns : need.returns
-returns c = sym (length-map (c .args .self .now .cells .now) cell-place)
+returns c = sym (length-map (c .args .self .now .0 .now) cell-place)

@@ -3,12 +3,12 @@ ghost use mathlib.Core.List.{[]};
 ghost use mathlib.Core.Path.{_≡_};
 ghost use Prim.Native.Nat.{_-_, _≤_};
 ghost use lib.ListN.{take};
 ghost use Rattle.cells.specs.Places.{cell-places};
-use cells::cell_strip::CellStrip;
-use cells::cell_strip::CellStripStrip;
-use cells::strip::Embosser;
-use cells::strip::Place;
-use cells::strip::Strip;
+use crate::cell_strip::CellStrip;
+use crate::cell_strip::CellStripStrip;
+use crate::strip::Embosser;
+use crate::strip::Place;
+use crate::strip::Strip;
 
 #[derive(Drop)]
 pub struct BrailleDisplay {
@@ -31,9 +31,9 @@ impl BrailleDisplay {
 
     // The cells pressed so far.
     fn shown(&self) -> CellStrip<'_>
-        ensures { λ r. ⌜ r .cells .now ≡ take (now (self .entry) .used) (now (self .entry) .cells) ⌝ }
+        ensures { λ r. ⌜ r .0 .now ≡ take (now (self .entry) .used) (now (self .entry) .cells) ⌝ }
     {
-        CellStrip::new(&self.cells[0..self.used])
+        CellStrip(&self.cells[0..self.used])
     }
 }
 

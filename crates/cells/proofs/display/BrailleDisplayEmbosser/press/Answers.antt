@@ -3,10 +3,10 @@ use mathlib.Core.Path.{_≡_, refl, sym, ap, _∙_}
 use lib.ListN.{take}
 use borrow.Author.Needs.{needs}
 use Rattle.std.proofs.shelf.Tests.{cond-true, lt-ltb}
 use Rattle.cells.specs.Places.{cell-place, cell-places}
 use Rattle.cells.specs.declared.strip.Place.the-variants.{Cell, Spoilt}
 use Rattle.cells.proofs.Memory.{front-more}
-use Rattle.carriers.proofs.display.BrailleDisplayEmbosser.press.Needs as need
+use Rattle.cells.proofs.display.BrailleDisplayEmbosser.press.Needs as need
 
 pub returns : need.returns
 returns c =
