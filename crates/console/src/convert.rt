@@ -23,7 +23,7 @@ pub fn emboss<'a, S: Strip>(
     strip: &S,
     to: Carrier,
     memory: &'a mut [u8],
-) -> Result<&'a mut [u8], CopyRefusal>
+) -> Result<&'a [u8], CopyRefusal>
     ensures { λ r. ⌜ bytes-told r ≡ embossed to (length (now (memory .entry))) (S·Strip .places (now (strip .entry))) ⌝ }
 {
     match to {
@@ -48,7 +48,7 @@ pub fn convert<'a>(
     bytes: &[u8],
     to: Carrier,
     memory: &'a mut [u8],
-) -> Result<&'a mut [u8], CopyRefusal>
+) -> Result<&'a [u8], CopyRefusal>
     ensures { λ r. ⌜ bytes-told r ≡ embossed to (length (now (memory .entry))) (carrier-places from (now (bytes .entry))) ⌝ }
 {
     match from {

@@ -1,0 +1,11 @@
+// Examples of cells, strips, embossers and carriers, each proved and run.
+#[cfg(test)]
+mod alike;
+#[cfg(test)]
+mod ascii;
+#[cfg(test)]
+mod display;
+#[cfg(test)]
+mod pressing;
+#[cfg(test)]
+mod unicode;
