@@ -33,9 +33,10 @@ pub impl<'a> Strip for AsciiStrip<'a> as AsciiStripStrip {
     }
 
     fn at(&self, place: usize) -> Option<Place> {
-        match self.0.get(place) {
-            Some(byte) => Some(place_of(*byte)),
-            None => None,
+        if place < self.0.len() {
+            Some(place_of(self.0[place]))
+        } else {
+            None
         }
     }
 }

@@ -9,7 +9,6 @@ use lib.ListN.{getD, length, take, set}
 use Rattle.std.specs.Options.{valueOr}
 use Rattle.std.specs.declared.option.Option.{Option}
 use Rattle.std.specs.declared.option.Option.the-variants.{Some, None}
-use Rattle.std.specs.shelf.Maps.{nth}
 use Rattle.std.proofs.shelf.Maps.{nth-getD, nth-past}
 use Rattle.std.specs.Vec.{listOf}
 use Rattle.std.specs.shelf.Lists.{joined}
@@ -44,16 +43,7 @@ pub no-cell : (byte : ℕ) → ((byte < 0x20) ⊎ (0x5F < byte)) → cell-of byt
 unfolding characters byte-of cell-of
 no-cell byte out = no-index byte 0x20 0x5F out 0 characters refl
 
--- the inverse table has the cells, and nothing past them
-pub nth-inverse : (k : ℕ) → nth inverse k ≡ cell-of (k + 32)
-unfolding inverse
-nth-inverse k =
-    elim (cases-lt k 64) [
-      | inl h ↦ nth-getD inverse k 0 h ∙ sym (cell-at k h)
-      | inr h ↦ nth-past inverse k h ∙ sym (no-cell (k + 32) (inr (omega arith)))
-    ]
-
-no-byte : (cell : ℕ) → 64 ≤ cell → byte-of cell ≡ None
+pub no-byte : (cell : ℕ) → 64 ≤ cell → byte-of cell ≡ None
 unfolding characters byte-of cell-of
 no-byte cell h = nth-past characters cell h
 

@@ -77,7 +77,11 @@ const CELLS: [u8; 64] = [
 pub fn byte_of(cell: u8) -> Option<u8>
     ensures { λ r. ⌜ r ≡ byte-of cell ⌝ }
 {
-    CHARACTERS.get(cell as usize).copied()
+    if cell < 64 {
+        Some(CHARACTERS[cell as usize])
+    } else {
+        None
+    }
 }
 
 // The cell of a Braille ASCII byte; none for any other byte. The two are a bijection.
@@ -85,6 +89,8 @@ pub fn cell_of(byte: u8) -> Option<u8>
     ensures value { λ r. ⌜ r ≡ cell-of byte ⌝ }
     ensures bijection { λ _. ⌜ Bijection ⌝ }
 {
-    let index = byte.checked_sub(0x20)?;
-    CELLS.get(index as usize).copied()
+    if byte < 0x20 || byte > 0x5F {
+        return None;
+    }
+    Some(CELLS[(byte - 0x20) as usize])
 }

@@ -26,9 +26,10 @@ pub impl<'a> Strip for CellStrip<'a> as CellStripStrip {
     }
 
     fn at(&self, place: usize) -> Option<Place> {
-        match self.0.get(place) {
-            Some(number) => Some(place_of(*number)),
-            None => None,
+        if place < self.0.len() {
+            Some(place_of(self.0[place]))
+        } else {
+            None
         }
     }
 }

@@ -1,8 +1,11 @@
-use mathlib.Core.Path.{_∙_}
-use Rattle.cells.specs.Cells.{characters, byte-of}
-use Rattle.cells.proofs.Items.{item-nth}
+use mathlib.Core.Path.{sym}
+use Rattle.cells.specs.Cells.{characters}
+use Rattle.cells.proofs.BrailleAscii.{byte-at, no-byte}
 use Rattle.cells.proofs.ascii.byte_of.Needs as need
 
-pub returns : need.returns
-unfolding characters byte-of
-returns c = c .copied .ensures ∙ item-nth characters (c .args .cell) (c .get .result) (c .get .ensures .finds)
+pub returns-then-cell-lt64 : need.returns-then-cell-lt64
+unfolding characters
+returns-then-cell-lt64 c = sym (byte-at (c .args .cell) (c .if-cell-lt64 .taken))
+
+pub returns-else-cell-lt64 : need.returns-else-cell-lt64
+returns-else-cell-lt64 c = sym (no-byte (c .args .cell) (c .if-cell-lt64 .left))

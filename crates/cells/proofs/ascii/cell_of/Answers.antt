@@ -1,24 +1,18 @@
-use mathlib.Core.Logic.{inl}
+use mathlib.Core.Logic.{inl, inr, ⊎-elim}
 use mathlib.Core.Path.{_≡_, sym, ap, _∙_}
-use Prim.Native.Nat.{_+_, _-_, _<_, _≤_}
+use Prim.Native.Nat.{_+_, _-_, _<_}
 use native.Mathlib.Omega.{arith}
-use Rattle.std.proofs.shelf.Tests.{cases-lt}
 use Rattle.cells.specs.Cells.{characters, cell-of}
-use Rattle.cells.proofs.BrailleAscii.{inverse, nth-inverse, no-cell, bijection}
-use Rattle.cells.proofs.Items.{item-nth}
+use Rattle.cells.proofs.BrailleAscii.{inverse, cell-at, no-cell, bijection}
 use Rattle.cells.proofs.ascii.cell_of.Needs as need
 
-pub returns-in-Break-index : need.returns-in-Break-index
-returns-in-Break-index c =
-    let low : c .args .byte < 0x20 = omega (arith, c .in-Break-index .ensures tt) in
-    record { value = c .from-residual .ensures ∙ sym (no-cell (c .args .byte) (inl low)); bijection = bijection }
+pub returns-then-byte-lt32 : need.returns-then-byte-lt32
+returns-then-byte-lt32 c =
+    record { value = sym (no-cell (c .args .byte) (⊎-elim (λ low. inl low) (λ high. inr (high .1)) (c .then-byte-lt32 .either))); bijection = bijection }
 
 pub returns : need.returns
 unfolding characters inverse cell-of
 returns c =
-    let k = c .in-Continue-index .index in
-    let same : k + 32 ≡ c .args .byte = omega (arith, c .in-Continue-index .ensures tt) in
-    record {
-      value = c .copied .ensures ∙ item-nth inverse k (c .get .result) (c .get .ensures .finds) ∙ nth-inverse k ∙ ap cell-of same;
-      bijection = bijection;
-    }
+    let k : c .args .byte - 32 < 64 = omega arith in
+    let same : c .args .byte - 32 + 32 ≡ c .args .byte = omega arith in
+    record { value = sym (ap cell-of (sym same) ∙ cell-at (c .args .byte - 32) k); bijection = bijection }

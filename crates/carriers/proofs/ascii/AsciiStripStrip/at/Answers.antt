@@ -1,13 +1,12 @@
 use mathlib.Core.Path.{ap, _∙_}
-use Rattle.std.specs.declared.option.Option.the-variants.{Some, None}
+use Rattle.std.specs.declared.option.Option.the-variants.{Some}
 use Rattle.carriers.specs.Carriers.{ascii-place}
-use Rattle.cells.proofs.Items.{item-map}
+use Rattle.cells.proofs.Items.{nth-map, nth-map-past}
 use Rattle.carriers.proofs.ascii.AsciiStripStrip.at.Needs as need
 
-pub returns-in-Some : need.returns-in-Some
-returns-in-Some c =
-    ap Some (c .place-of .ensures)
-    ∙ item-map ascii-place (c .args .self .now .0 .now) (c .args .place) (Some (c .in-Some .byte)) (c .in-Some .ensures tt .finds)
+pub returns-then-place-self : need.returns-then-place-self
+returns-then-place-self c =
+    ap Some (c .place-of .ensures) ∙ nth-map ascii-place (c .args .self .now .0 .now) (c .args .place) 0 (c .if-place-self .taken)
 
-pub returns-in-None : need.returns-in-None
-returns-in-None c = item-map ascii-place (c .args .self .now .0 .now) (c .args .place) None (c .in-None .ensures tt .finds)
+pub returns-else-place-self : need.returns-else-place-self
+returns-else-place-self c = nth-map-past ascii-place (c .args .self .now .0 .now) (c .args .place) (c .if-place-self .left)
