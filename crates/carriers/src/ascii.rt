@@ -1,11 +1,11 @@
 // The ASCII carrier: one Braille ASCII byte a cell, letters in upper case.
-ghost use mathlib.Core.List.{[], _++_};
+ghost use mathlib.Core.List.{[]};
 ghost use mathlib.Core.Bool.{true};
 ghost use mathlib.Core.Path.{_≡_};
 ghost use Prim.Native.Nat.{_-_, _≤_};
 ghost use lib.ListN.{length, take, drop};
 ghost use Rattle.std.specs.shelf.Lists.{joined};
-ghost use Rattle.carriers.specs.Carriers.{ascii-bytes, ascii-place, ascii-places, place-of};
+ghost use Rattle.carriers.specs.Carriers.{ascii-bytes, ascii-place, ascii-places};
 ghost use Rattle.cells.specs.Places.{all-cells};
 use cells::ascii;
 use cells::strip::Embosser;
@@ -60,9 +60,11 @@ impl<'a> AsciiTape<'a> {
         AsciiTape { bytes, used: 0 }
     }
 
-    // Ends the tape, and parts its memory: what was pressed, and what lies behind that, as it was before.
+    // Ends the tape, and parts its memory: the bytes of the cells pressed, which read back as these, and the bytes
+    // behind them, as they were before.
     pub fn finish(self) -> (&'a mut [u8], &'a mut [u8])
         ensures pressed { λ r. ⌜ now (r .0) ≡ joined ascii-bytes (ascii-places (take (self .entry .used) (self .entry .bytes .now))) ⌝ }
+        ensures reads { λ r. ⌜ ascii-places (now (r .0)) ≡ ascii-places (take (self .entry .used) (self .entry .bytes .now)) ⌝ }
         ensures unused { λ r. ⌜ now (r .1) ≡ drop (self .entry .used) (self .entry .bytes .now) ⌝ }
     {
         let AsciiTape { bytes, used } = self;

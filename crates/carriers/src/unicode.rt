@@ -1,5 +1,5 @@
 // The Unicode carrier: the three bytes of a character of U+2800 to U+283F a cell.
-ghost use mathlib.Core.List.{[], _++_};
+ghost use mathlib.Core.List.{[]};
 ghost use mathlib.Core.Bool.{true};
 ghost use mathlib.Core.Path.{_≡_};
 ghost use Prim.Native.Nat.{_*_, _-_, _/_, _≤_};
@@ -64,9 +64,11 @@ impl<'a> UnicodeTape<'a> {
         UnicodeTape { bytes, used: 0 }
     }
 
-    // Ends the tape, and parts its memory: what was pressed, and what lies behind that, as it was before.
+    // Ends the tape, and parts its memory: the bytes of the cells pressed, which read back as these, and the bytes
+    // behind them, as they were before.
     pub fn finish(self) -> (&'a mut [u8], &'a mut [u8])
         ensures pressed { λ r. ⌜ now (r .0) ≡ joined unicode-bytes (unicode-places (take (3 * self .entry .used) (self .entry .bytes .now))) ⌝ }
+        ensures reads { λ r. ⌜ unicode-places (now (r .0)) ≡ unicode-places (take (3 * self .entry .used) (self .entry .bytes .now)) ⌝ }
         ensures unused { λ r. ⌜ now (r .1) ≡ drop (3 * self .entry .used) (self .entry .bytes .now) ⌝ }
     {
         let UnicodeTape { bytes, used } = self;

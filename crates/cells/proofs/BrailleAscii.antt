@@ -14,7 +14,7 @@ use Rattle.std.specs.Vec.{listOf}
 use Rattle.std.specs.shelf.Lists.{joined}
 use Rattle.std.proofs.shelf.Tests.{cases-lt, lt-ltb, le-ltb, and-parts, false≢true}
 use Rattle.cells.specs.Cells.{is-cell, characters, byte-of, cell-of, Bijection}
-use Rattle.cells.proofs.Tables.{below, agree, all-within, no-index}
+use Rattle.cells.proofs.Tables.{below, agree, no-index}
 
 -- the character of a cell, and the cell of the k-th character, as plain numbers
 abbrev pub character : ℕ → ℕ

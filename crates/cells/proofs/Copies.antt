@@ -17,9 +17,10 @@ use Rattle.std.proofs.shelf.Lists.{append-assoc, length-map, take-more, drop-dr
 use Rattle.std.proofs.shelf.Maps.{nth-getD}
 use Rattle.std.proofs.shelf.Tests.{and-parts, cond-true}
 use Rattle.cells.specs.Cells.{is-cell}
+use Rattle.cells.specs.Lists.{all}
 use Rattle.cells.specs.Places.{cell-place, cell-places}
 use Rattle.cells.specs.Places.{has-cell, cell-in, first-gap}
-use Rattle.cells.specs.Pressing.{all-are-cells, takes-all, unless-gap, if-room, copied}
+use Rattle.cells.specs.Pressing.{takes-all, unless-gap, if-room, copied}
 use Rattle.cells.specs.Refusals.{Answer, granted, refused, told}
 use Rattle.cells.specs.declared.refusal.CopyRefusal.{CopyRefusal}
 use Rattle.cells.specs.declared.refusal.CopyRefusal.the-variants.{NoRoomFor, SpoiltAt}
@@ -54,28 +55,28 @@ granted-room : (free cells : ℕ) → is-granted (if-room free cells) ≡ leb ce
 granted-room free cells = grind arith
 
 -- a list of numbers is pressed if all are cells and fit
-list-granted : (n free cells : ℕ) (ns : List ℕ) → is-granted (unless-gap (first-gap n (cell-places ns)) (if-room free cells)) ≡ (all-are-cells ns && leb cells free)
+list-granted : (n free cells : ℕ) (ns : List ℕ) → is-granted (unless-gap (first-gap n (cell-places ns)) (if-room free cells)) ≡ (all is-cell ns && leb cells free)
 list-granted n free cells [] = granted-room free cells
 list-granted n free cells (x ∷ ns) = by (is-cell x) refl (list-granted (suc n) free cells ns)
   where
     by : (b : Bool) → is-cell x ≡ b →
-        is-granted (unless-gap (first-gap (suc n) (cell-places ns)) (if-room free cells)) ≡ (all-are-cells ns && leb cells free) →
-        is-granted (unless-gap (cond (has-cell (cond b (Cell x) Spoilt)) (first-gap (suc n) (cell-places ns)) (Some n)) (if-room free cells)) ≡ ((b && all-are-cells ns) && leb cells free)
+        is-granted (unless-gap (first-gap (suc n) (cell-places ns)) (if-room free cells)) ≡ (all is-cell ns && leb cells free) →
+        is-granted (unless-gap (cond (has-cell (cond b (Cell x) Spoilt)) (first-gap (suc n) (cell-places ns)) (Some n)) (if-room free cells)) ≡ ((b && all is-cell ns) && leb cells free)
     by true t rest = rw t rest
     by false t rest = refl
 
 pub list-copied : (free : ℕ) (ns : List ℕ) → is-granted (copied free (cell-places ns)) ≡ takes-all free ns
 list-copied free ns = ap (λ k. is-granted (unless-gap (first-gap 0 (cell-places ns)) (if-room free k))) (length-map ns cell-place) ∙ list-granted 0 free (length ns) ns
 
-pub cells-as-places : (ns : List ℕ) → all-are-cells ns ≡ true → cell-places ns ≡ map Cell ns
+pub cells-as-places : (ns : List ℕ) → all is-cell ns ≡ true → cell-places ns ≡ map Cell ns
 cells-as-places [] t = refl
 cells-as-places (n ∷ ns) t =
-    let p = and-parts (is-cell n) (all-are-cells ns) t in
+    let p = and-parts (is-cell n) (all is-cell ns) t in
     let first : cell-place n ≡ Cell n = cond-true (is-cell n) (Cell n) Spoilt (p .0) in
     let rest = cells-as-places ns (p .1) in
     λ i. first i ∷ rest i
 
 -- the places that a granted list adds are its cells
 pub list-places : (r : Bool) (free : ℕ) (old : List Place) (ns : List ℕ) → r ≡ takes-all free ns → cond r (old ++ cell-places ns) old ≡ cond r (old ++ map Cell ns) old
-list-places true free old ns e = ap (λ ps. old ++ ps) (cells-as-places ns (and-parts (all-are-cells ns) (leb (length ns) free) (sym e) .0))
+list-places true free old ns e = ap (λ ps. old ++ ps) (cells-as-places ns (and-parts (all is-cell ns) (leb (length ns) free) (sym e) .0))
 list-places false free old ns e = refl

@@ -10,7 +10,7 @@ use lib.Dec.{eqb, leb, ltb}
 use Rattle.std.proofs.shelf.Tests.{cases-order, and-parts, leb-true, ltb-true, ne-eqb}
 use Rattle.std.specs.declared.option.Option.{Option}
 use Rattle.std.specs.declared.option.Option.the-variants.{Some, None}
-use Rattle.cells.specs.Cells.{index-of}
+use Rattle.cells.specs.Lists.{all, index-of}
 
 -- the numbers below n
 abbrev pub below : ℕ → List ℕ
@@ -29,15 +29,14 @@ agree f g (suc n) e k h =
       ]
     ]
 
--- each number of the list is one of low to high
-abbrev pub all-within : ℕ → ℕ → List ℕ → Bool
-all-within low high [] = true
-all-within low high (y ∷ ys) = (leb low y && leb y high) && all-within low high ys
+-- one of low to high
+abbrev pub within : ℕ → ℕ → ℕ → Bool
+within low high y = leb low y && leb y high
 
-pub no-index : (x low high : ℕ) → ((x < low) ⊎ (high < x)) → (n : ℕ) (ys : List ℕ) → all-within low high ys ≡ true → index-of x n ys ≡ None
+pub no-index : (x low high : ℕ) → ((x < low) ⊎ (high < x)) → (n : ℕ) (ys : List ℕ) → all (within low high) ys ≡ true → index-of x n ys ≡ None
 no-index x low high out n [] e = refl
 no-index x low high out n (y ∷ ys) e =
-    let p = and-parts (leb low y && leb y high) (all-within low high ys) e in
+    let p = and-parts (within low high y) (all (within low high) ys) e in
     let q = and-parts (leb low y) (leb y high) (p .0) in
     let l : low ≤ y = leb-true low y (q .0) in
     let h : y ≤ high = leb-true y high (q .1) in

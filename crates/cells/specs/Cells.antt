@@ -1,14 +1,15 @@
 -- Braille cells, and the Braille ASCII character of each.
 -- A cell is a number of 0 to 63: dots 1 to 6 count 1, 2, 4, 8, 16 and 32, and cell 0 is the blank.
-use mathlib.Core.Bool.{Bool, cond}
-use mathlib.Core.List.{List, [], _∷_}
+use mathlib.Core.Bool.{Bool}
+use mathlib.Core.List.{List}
 use mathlib.Core.Path.{_≡_}
-use Prim.Native.Nat.{ℕ, suc, _<_, _≤_}
+use Prim.Native.Nat.{ℕ, _<_, _≤_}
 use lib.Chars.{codes}
-use lib.Dec.{eqb, ltb}
+use lib.Dec.{ltb}
 use Rattle.std.specs.declared.option.Option.{Option}
 use Rattle.std.specs.declared.option.Option.the-variants.{Some, None}
 use Rattle.std.specs.shelf.Maps.{nth}
+use Rattle.cells.specs.Lists.{index-of}
 
 abbrev pub is-cell : ℕ → Bool
 is-cell n = ltb n 64
@@ -16,11 +17,6 @@ is-cell n = ltb n 64
 -- the characters of the 64 cells, in cell order
 unfoldable pub characters : List ℕ
 characters = codes " A1B'K2L@CIF/MSP\"E3H9O6R^DJG>NTQ,*5<-U8V.%[$+X!&;:4\\0Z7(_?W]#Y)="
-
--- where a number first stands in a list, whose first place counts as n
-abbrev pub index-of : ℕ → ℕ → List ℕ → Option ℕ
-index-of x n [] = None
-index-of x n (y ∷ ys) = cond (eqb x y) (Some n) (index-of x (suc n) ys)
 
 -- the character of a cell
 unfoldable pub byte-of : ℕ → Option ℕ

@@ -1,10 +1,11 @@
 -- The places of a strip: each holds a cell or is spoilt.
-use mathlib.Core.Bool.{Bool, true, false, cond, _&&_}
+use mathlib.Core.Bool.{Bool, false, cond}
 use mathlib.Core.List.{List, [], _∷_, map}
 use Prim.Native.Nat.{ℕ, suc}
 use Rattle.std.specs.declared.option.Option.{Option}
 use Rattle.std.specs.declared.option.Option.the-variants.{Some, None}
 use Rattle.cells.specs.Cells.{is-cell}
+use Rattle.cells.specs.Lists.{all}
 use Rattle.cells.specs.declared.strip.Place.{Place}
 use Rattle.cells.specs.declared.strip.Place.the-variants.{Cell, Spoilt}
 
@@ -14,8 +15,7 @@ has-cell (Cell c) = is-cell c
 has-cell Spoilt = false
 
 abbrev pub all-cells : List Place → Bool
-all-cells [] = true
-all-cells (p ∷ ps) = has-cell p && all-cells ps
+all-cells places = all has-cell places
 
 -- the first place with no cell, where the first of the list counts as n
 abbrev pub first-gap : ℕ → List Place → Option ℕ

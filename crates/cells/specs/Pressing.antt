@@ -1,12 +1,13 @@
 -- What an embosser takes: a cell, a list of cells, the places of a strip.
-use mathlib.Core.Bool.{Bool, true, cond, _&&_}
-use mathlib.Core.List.{List, [], _∷_}
+use mathlib.Core.Bool.{Bool, cond, _&&_}
+use mathlib.Core.List.{List}
 use Prim.Native.Nat.{ℕ}
 use lib.Dec.{leb, ltb}
 use lib.ListN.{length}
 use Rattle.std.specs.declared.option.Option.{Option}
 use Rattle.std.specs.declared.option.Option.the-variants.{Some, None}
 use Rattle.cells.specs.Cells.{is-cell}
+use Rattle.cells.specs.Lists.{all}
 use Rattle.cells.specs.Places.{first-gap}
 use Rattle.cells.specs.Refusals.{Answer, granted, refused}
 use Rattle.cells.specs.declared.strip.Place.{Place}
@@ -16,12 +17,8 @@ abbrev pub takes : ℕ → ℕ → Bool
 takes free n = is-cell n && ltb 0 free
 
 -- it takes these numbers one after the other: all are cells, and there is room for all
-abbrev pub all-are-cells : List ℕ → Bool
-all-are-cells [] = true
-all-are-cells (n ∷ ns) = is-cell n && all-are-cells ns
-
 abbrev pub takes-all : ℕ → List ℕ → Bool
-takes-all free ns = all-are-cells ns && leb (length ns) free
+takes-all free ns = all is-cell ns && leb (length ns) free
 
 -- a strip is pressed whole or not at all: refused by 10 at its first place with no cell, else by 9 with the cells needed where fewer are free
 abbrev pub unless-gap : Option ℕ → Answer → Answer

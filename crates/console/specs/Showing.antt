@@ -7,8 +7,8 @@ use Rattle.std.specs.declared.option.Option.the-variants.{Some, None}
 use Rattle.cells.specs.Cells.{is-cell, byte-of}
 use Rattle.cells.specs.declared.strip.Place.{Place}
 use Rattle.cells.specs.declared.strip.Place.the-variants.{Cell, Spoilt}
-use Rattle.console.specs.declared.show.Script.{Script}
-use Rattle.console.specs.declared.show.Script.the-variants.{Dots, Characters}
+use Rattle.console.specs.declared.show.Notation.{Notation}
+use Rattle.console.specs.declared.show.Notation.the-variants.{Dots, BrailleAscii}
 
 abbrev pub tilde : ℕ
 tilde = 0x7E
@@ -29,6 +29,6 @@ abbrev pub character-shown : Place → ℕ
 character-shown (Cell c) = character-of (byte-of c)
 character-shown Spoilt = tilde
 
-abbrev pub shown : Script → Place → ℕ
+abbrev pub shown : Notation → Place → ℕ
 shown Dots place = braille-shown place
-shown Characters place = character-shown place
+shown BrailleAscii place = character-shown place

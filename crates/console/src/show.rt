@@ -6,23 +6,23 @@ use cells::strip::Place;
 
 // What a strip is shown in.
 #[derive(Clone, Copy)]
-pub enum Script {
+pub enum Notation {
     // Unicode's braille patterns
     Dots,
     // Braille ASCII, letters in lower case
-    Characters,
+    BrailleAscii,
 }
 
 // The mark of a place with no cell; no cell is shown so.
 const SPOILT: char = '~';
 
-impl Script {
+impl Notation {
     pub fn show(self, place: Place) -> char
         ensures { λ r. ⌜ r ≡ shown self place ⌝ }
     {
         match self {
-            Script::Dots => braille(place),
-            Script::Characters => character(place),
+            Notation::Dots => braille(place),
+            Notation::BrailleAscii => character(place),
         }
     }
 }

@@ -1,5 +1,5 @@
 // The arguments of the program.
-ghost use Rattle.label.specs.Words.{Names};
+ghost use Rattle.label.specs.Words.{Names, carrier-name, flag-name, verb-name};
 use crate::failure::Failure;
 use console::carrier::Carrier;
 use std::env::Args;
@@ -13,13 +13,34 @@ pub enum Command {
     Help,
 }
 
+// The first word.
+#[derive(Clone, Copy)]
+enum Verb {
+    Convert,
+    Show,
+    Help,
+}
+
+fn verb_named(word: &str) -> Option<Verb>
+    ensures { λ r. ⌜ Names verb-name (now (word .entry)) r ⌝ }
+{
+    match word {
+        "convert" => Some(Verb::Convert),
+        "show" => Some(Verb::Show),
+        "help" => Some(Verb::Help),
+        _ => None,
+    }
+}
+
 #[derive(Clone, Copy)]
 enum Flag {
     From,
     To,
 }
 
-fn flag_named(word: &str) -> Option<Flag> {
+fn flag_named(word: &str) -> Option<Flag>
+    ensures { λ r. ⌜ Names flag-name (now (word .entry)) r ⌝ }
+{
     match word {
         "--from" => Some(Flag::From),
         "--to" => Some(Flag::To),
@@ -28,7 +49,7 @@ fn flag_named(word: &str) -> Option<Flag> {
 }
 
 fn carrier_named(word: &str) -> Option<Carrier>
-    ensures { λ r. ⌜ Names (now (word .entry)) r ⌝ }
+    ensures { λ r. ⌜ Names carrier-name (now (word .entry)) r ⌝ }
 {
     match word {
         "ascii" => Some(Carrier::Ascii),
@@ -46,18 +67,14 @@ struct Options {
 
 impl Options {
     fn set(&mut self, flag: Flag, carrier: Carrier) -> Result<(), Failure> {
-        let slot = match flag {
-            Flag::From => self.from,
-            Flag::To => self.to,
+        let before = match flag {
+            Flag::From => self.from.replace(carrier),
+            Flag::To => self.to.replace(carrier),
         };
-        if slot.is_some() {
-            return Err(Failure::Usage("an option stands twice"));
+        match before {
+            None => Ok(()),
+            Some(_) => Err(Failure::Usage("an option stands twice")),
         }
-        match flag {
-            Flag::From => self.from = Some(carrier),
-            Flag::To => self.to = Some(carrier),
-        }
-        Ok(())
     }
 
     fn parse(words: Skip<Args>) -> Result<Options, Failure> {
@@ -89,20 +106,17 @@ impl Options {
 
 pub fn parse(args: Args) -> Result<Command, Failure> {
     let mut words = args.skip(1);
-    let Some(name) = words.next() else {
+    let Some(first) = words.next() else {
         return Ok(Command::Demonstrate);
     };
+    let verb = verb_named(first.as_str()).ok_or(Failure::Usage("no such command"))?;
     let options = Options::parse(words)?;
-    match name.as_str() {
-        "convert" => match (options.from, options.to) {
-            (Some(from), Some(to)) => Ok(Command::Convert(from, to)),
-            _ => Err(Failure::Usage("convert wants --from and --to")),
-        },
-        "show" => match options.to {
-            None => Ok(Command::Show(options.from.unwrap_or(Carrier::Ascii))),
-            Some(_) => Err(Failure::Usage("show takes no --to")),
-        },
-        "help" | "--help" => Ok(Command::Help),
-        _ => Err(Failure::Usage("no such command")),
+    match (verb, options.from, options.to) {
+        (Verb::Convert, Some(from), Some(to)) => Ok(Command::Convert(from, to)),
+        (Verb::Convert, _, _) => Err(Failure::Usage("convert wants --from and --to")),
+        (Verb::Show, from, None) => Ok(Command::Show(from.unwrap_or(Carrier::Ascii))),
+        (Verb::Show, _, Some(_)) => Err(Failure::Usage("show takes no --to")),
+        (Verb::Help, None, None) => Ok(Command::Help),
+        (Verb::Help, _, _) => Err(Failure::Usage("help takes no options")),
     }
 }

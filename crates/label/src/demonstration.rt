@@ -21,7 +21,7 @@ use cells::display::BrailleDisplayEmbosser;
 use cells::display::BrailleDisplayStrip;
 use cells::strip::Embosser;
 use cells::strip::Strip;
-use console::show::Script;
+use console::show::Notation;
 
 const LABEL: AsciiStrip<'static> = AsciiStrip(b"BIN #B,B OR #E;B");
 
@@ -78,6 +78,6 @@ fn tell_bytes(rt: &LibcRuntime, bytes: &[u8]) -> Result<(), Failure> {
 }
 
 fn read_back<S: Strip>(rt: &LibcRuntime, strip: &S) -> Result<(), Failure> {
-    let text = row(rt, strip, Script::Characters, 0, strip.len())?;
+    let text = row(rt, strip, Notation::BrailleAscii, 0, strip.len())?;
     Ok(println!(rt, "  reads back {text}")?)
 }

@@ -10,7 +10,7 @@ use cells::refusal::CopyRefusal;
 use cells::strip::Strip;
 use console::carrier::Carrier;
 use console::convert::convert;
-use console::show::Script;
+use console::show::Notation;
 use std::io::Read;
 use std::io::Write;
 
@@ -54,8 +54,8 @@ pub fn show<S: Strip>(rt: &LibcRuntime, strip: &S) -> Result<(), Failure> {
     for count in 0..strip.len().div_ceil(ROW) {
         let start = count.saturating_mul(ROW);
         let end = start.saturating_add(ROW);
-        let dots = row(rt, strip, Script::Dots, start, end)?;
-        let characters = row(rt, strip, Script::Characters, start, end)?;
+        let dots = row(rt, strip, Notation::Dots, start, end)?;
+        let characters = row(rt, strip, Notation::BrailleAscii, start, end)?;
         println!(rt, "{start:>5}  {dots}\n       {characters}")?;
     }
     Ok(())
@@ -65,14 +65,14 @@ pub fn show<S: Strip>(rt: &LibcRuntime, strip: &S) -> Result<(), Failure> {
 pub fn row<S: Strip>(
     rt: &LibcRuntime,
     strip: &S,
-    script: Script,
+    notation: Notation,
     start: usize,
     end: usize,
 ) -> Result<String, Failure> {
     let mut text = String::new(rt.alloc());
     for at in start..end {
         if let Some(place) = strip.at(at) {
-            text.push(script.show(place))?;
+            text.push(notation.show(place))?;
         }
     }
     Ok(text)
