@@ -11,7 +11,7 @@ use Rattle.std.specs.shelf.Lists.{joined}
 use Rattle.std.proofs.shelf.Tests.{and-parts, false≢true}
 use Rattle.cells.specs.Cells.{byte-of, cell-of}
 use Rattle.cells.specs.Places.{has-cell, all-cells}
-use Rattle.cells.specs.declared.strip.Place.the-variants.{Cell, Spoilt}
+use Rattle.cells.specs.declared.strip.Place.the-variants.{Cell}
 use Rattle.cells.proofs.BrailleAscii.{cell-from-byte, byte-from-cell, cell-with-byte}
 use Rattle.cells.proofs.Memory.{front-more, all-cells-more}
 use Rattle.carriers.specs.Carriers.{place-of, ascii-place, ascii-places, ascii-bytes}

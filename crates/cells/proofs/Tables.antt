@@ -2,14 +2,13 @@
 use mathlib.Core.Bool.{Bool, true, false, _&&_}
 use mathlib.Core.List.{List, [], _∷_, map}
 use mathlib.Core.Logic.{_⊎_, inl, inr}
-use mathlib.Core.Path.{_≡_, refl, subst, sym}
+use mathlib.Core.Path.{_≡_, refl}
 use Prim.Native.Nat.{ℕ, zero, suc, _<_, _≤_}
 use native.Mathlib.Nat.{not-suc-le-zero}
 use native.Mathlib.Omega.{arith}
-use lib.Dec.{eqb, leb, ltb}
-use Rattle.std.proofs.shelf.Tests.{cases-order, and-parts, leb-true, ltb-true, ne-eqb}
-use Rattle.std.specs.declared.option.Option.{Option}
-use Rattle.std.specs.declared.option.Option.the-variants.{Some, None}
+use lib.Dec.{eqb, leb}
+use Rattle.std.proofs.shelf.Tests.{cases-order, and-parts, leb-true, ne-eqb}
+use Rattle.std.specs.declared.option.Option.the-variants.{None}
 use Rattle.cells.specs.Lists.{all, index-of}
 
 -- the numbers below n

@@ -1,6 +1,5 @@
 // A strip over a list of numbers, as cells are pressed and shown.
 ghost use mathlib.Core.Path.{_≡_};
-ghost use lib.ListN.{length};
 ghost use Rattle.cells.specs.Places.{cell-place, cell-places};
 use crate::strip::Place;
 use crate::strip::Strip;

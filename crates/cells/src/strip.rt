@@ -33,8 +33,8 @@ pub trait Embosser: Strip {
     // the number of cells free
     ghost room: { Self → ℕ };
 
-    // For an embosser over lent memory: the bytes behind the last pressed cell, and how many of them the next cell takes.
-    // Any other leaves both out, and nothing is asked of it.
+    // The bytes of lent memory behind the last pressed cell, and how many of them a cell takes: by these a caller
+    // knows that the rest of its memory stays. An embosser with no such memory leaves both out, and they ask nothing.
     ghost unused: { Self → List ℕ } = { λ _. [] };
 
     ghost width: { ℕ } = { 0 };

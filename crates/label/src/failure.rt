@@ -39,7 +39,7 @@ pub impl fmt::Display for Failure as FailureDisplay {
             Failure::Usage(what) => write!(f, "{what}"),
             Failure::Spoilt(place, found) => write!(
                 f,
-                "refusal 10 at place {place}: no cell stands there, but {found}"
+                "refusal 10 at place {place}: no cell stands there; found {found}"
             ),
             Failure::Refused(CopyRefusal::SpoiltAt(place)) => write!(
                 f,

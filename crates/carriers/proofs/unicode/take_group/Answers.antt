@@ -1,5 +1,5 @@
 use mathlib.Core.Bool.{true, false, _&&_}
-use mathlib.Core.Path.{_≡_, sym, ap, _∙_}
+use mathlib.Core.Path.{_≡_, sym}
 use Prim.Native.Nat.{_<_}
 use lib.Dec.{eqb, leb}
 use lib.ListN.{length, getD}

@@ -5,7 +5,7 @@ use Prim.Native.Nat.{_-_, _*_}
 use lib.ListN.{length, drop}
 use Rattle.std.proofs.shelf.Lists.{length-map}
 use Rattle.cells.specs.Places.{cell-place, cell-places}
-use Rattle.cells.specs.Pressing.{copied, takes-all}
+use Rattle.cells.specs.Pressing.{takes-all}
 use Rattle.cells.proofs.Copies.{is-granted, granted-ok, list-copied, list-places}
 use Rattle.cells.proofs.copy.press_all.Needs as need
 
