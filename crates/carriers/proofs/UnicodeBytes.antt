@@ -10,7 +10,7 @@ use Rattle.std.specs.declared.option.Option.{Option}
 use Rattle.std.specs.declared.option.Option.the-variants.{Some, None}
 use Rattle.std.specs.shelf.Lists.{joined}
 use Rattle.std.specs.shelf.Maps.{nth}
-use Rattle.std.proofs.shelf.Lists.{append-assoc, length-set, length-take, length-take-le, take-more-set, take-set-le, drop-set-lt, drop-drop}
+use Rattle.std.proofs.shelf.Lists.{append-assoc, length-set, length-take-le, take-more-set, take-set-le, drop-set-lt, drop-drop}
 use Rattle.std.proofs.shelf.Tests.{and-parts, cond-both, eqb-true, leb-true, ltb-true, le-leb, false≢true}
 use Rattle.cells.specs.Cells.{is-cell}
 use Rattle.carriers.specs.Carriers.{unicode-place, unicode-places, unicode-bytes, first-group}
@@ -98,9 +98,6 @@ group-more k (x ∷ y ∷ z ∷ xs) a b c e = ap (λ p. unicode-place x y z ∷ 
 module _ (bytes : List ℕ) (used cell : ℕ) where
   abbrev pub pressed : List ℕ
   pressed = set (set (set bytes (3 * used) 0xE2) (3 * used + 1) 0xA0) (3 * used + 2) (0x80 + cell)
-
-  pub front-length : 3 * used ≤ length bytes → length (unicode-places (take (3 * used) bytes)) ≡ used
-  front-length h = length-unicode (take (3 * used) bytes) ∙ simp length-take (omega arith)
 
   pub behind-groups : drop (3 * (used + 1)) pressed ≡ drop 3 (drop (3 * used) bytes)
   behind-groups =

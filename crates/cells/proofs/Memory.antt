@@ -3,10 +3,10 @@ use mathlib.Core.Bool.{true}
 use mathlib.Core.List.{List, [], _∷_, _++_, map}
 use mathlib.Core.Logic.{inl, inr}
 use mathlib.Core.Path.{_≡_, refl, sym, ap, _∙_}
-use Prim.Native.Nat.{ℕ, min, zero-le, _+_, _-_, _<_, _≤_}
+use Prim.Native.Nat.{ℕ, min, zero-le, _+_, _-_, _<_}
 use native.Mathlib.Omega.{arith}
 use lib.ListN.{length, take, drop, set}
-use Rattle.std.proofs.shelf.Lists.{length-drop, take-all, drop-all, take-at, drop-at, take-more-set, map-push, drop-set-lt, drop-drop, length-map, length-take-le}
+use Rattle.std.proofs.shelf.Lists.{length-drop, take-all, drop-all, take-at, drop-at, take-more-set, map-push, drop-set-lt, drop-drop}
 use Rattle.std.proofs.shelf.Tests.{and-parts, and-from, cases-lt}
 use Rattle.cells.specs.Places.{has-cell, all-cells}
 use Rattle.cells.specs.declared.strip.Place.{Place}
@@ -14,9 +14,6 @@ use Rattle.cells.specs.declared.strip.Place.{Place}
 -- one element more at the front, where each means a place
 pub front-more : {X Y : Type 0} (f : X → Y) (xs : List X) (u : ℕ) (x : X) → u < length xs → map f (take (u + 1) (set xs u x)) ≡ map f (take u xs) ++ f x ∷ []
 front-more f xs u x h = ap (map f) (take-more-set xs u x h) ∙ map-push f (take u xs) x
-
-pub front-length : {X Y : Type 0} (f : X → Y) (xs : List X) (u : ℕ) → u ≤ length xs → length (map f (take u xs)) ≡ u
-front-length f xs u h = length-map (take u xs) f ∙ length-take-le u xs h
 
 -- and what lies behind is as it was
 pub behind-more : {X : Type 0} (xs : List X) (u : ℕ) (x : X) → drop (u + 1) (set xs u x) ≡ drop 1 (drop u xs)
@@ -39,7 +36,6 @@ part-to-end xs n width start end s e =
     elim (cases-lt n (length xs)) [
       | inl h ↦
           let same : start ≡ n = omega arith in
-          let rest = drop n xs in
           let cut : length (drop n xs) ≡ length xs - n = length-drop n xs in
           rw same (elim (cases-lt (length xs - n) width) [
             | inl k ↦ take-all (end - n) (drop n xs) (omega arith) ∙ sym (take-all width (drop n xs) (omega arith))

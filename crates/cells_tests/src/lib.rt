@@ -4,6 +4,8 @@ mod alike;
 #[cfg(test)]
 mod ascii;
 #[cfg(test)]
+mod commands;
+#[cfg(test)]
 mod display;
 #[cfg(test)]
 mod pressing;

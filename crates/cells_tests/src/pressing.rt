@@ -15,8 +15,6 @@ use cells::refusal::CopyRefusalDebug;
 use cells::refusal::CopyRefusalPartialEq;
 use cells::strip::Embosser;
 use cells::strip::Strip;
-use console::carrier::Carrier;
-use console::convert::convert;
 use std::test::*;
 
 #[test]
@@ -48,36 +46,4 @@ fn refusals_of_a_copy() -> Result<(), Fail> {
     )?;
     let (pressed, unused) = tape.finish();
     check(alike(pressed, b"ABC") && alike(unused, b"~"))
-}
-
-#[test]
-fn converted_there_and_back() -> Result<(), Fail> {
-    let label = b"BIN #B,B OR #E;B";
-    let mut wide = [0; 48];
-    let mut narrow = [0; 16];
-    let dots = convert(Carrier::Ascii, label, Carrier::Unicode, &mut wide)?;
-    let back = convert(Carrier::Unicode, dots, Carrier::Ascii, &mut narrow)?;
-    check(alike(dots, "⠃⠊⠝⠀⠼⠃⠠⠃⠀⠕⠗⠀⠼⠑⠰⠃".as_bytes()) && alike(back, label))
-}
-
-#[test]
-fn conversion_refused() -> Result<(), Fail> {
-    let mut memory = [0; 8];
-    let cut = [0xE2, 0xA0, 0x81, 0xE2, 0xA0];
-    check_eq(
-        convert(Carrier::Ascii, b"ABC", Carrier::Unicode, &mut memory).err(),
-        Some(CopyRefusal::NoRoomFor(3)),
-    )?;
-    check_eq(
-        convert(Carrier::Unicode, &cut, Carrier::Ascii, &mut memory).err(),
-        Some(CopyRefusal::SpoiltAt(1)),
-    )?;
-    check(
-        alike(Carrier::Unicode.group(&cut, 1), &[0xE2, 0xA0])
-            && alike(Carrier::Ascii.group(&cut, 2), &[0x81]),
-    )?;
-    check(
-        Carrier::Ascii.group(&cut, 5).is_empty()
-            && Carrier::Unicode.group(&cut, usize::MAX).is_empty(),
-    )
 }

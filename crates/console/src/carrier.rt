@@ -3,6 +3,7 @@ ghost use mathlib.Core.Path.{_≡_};
 ghost use Prim.Native.Nat.{_*_};
 ghost use lib.ListN.{take, drop};
 ghost use Rattle.console.specs.Converting.{bytes-a-cell};
+ghost use Rattle.console.specs.Words.{Names, carrier-name};
 
 #[derive(Clone, Copy)]
 pub enum Carrier {
@@ -11,6 +12,17 @@ pub enum Carrier {
 }
 
 impl Carrier {
+    // The carrier of a name.
+    pub fn named(word: &str) -> Option<Carrier>
+        ensures { λ r. ⌜ Names carrier-name (now (word .entry)) r ⌝ }
+    {
+        match word {
+            "ascii" => Some(Carrier::Ascii),
+            "unicode" => Some(Carrier::Unicode),
+            _ => None,
+        }
+    }
+
     // The number of bytes a cell.
     pub fn width(self) -> usize
         ensures { λ r. ⌜ r ≡ bytes-a-cell self ⌝ }

@@ -1,12 +1,13 @@
 // The arguments of the program.
-ghost use Rattle.label.specs.Words.{Names, carrier-name, flag-name, verb-name};
+ghost use Rattle.console.specs.Words.{Names};
+ghost use Rattle.label.specs.Words.{flag-name, verb-name};
 use crate::failure::Failure;
 use console::carrier::Carrier;
 use std::env::Args;
 use std::iter::Skip;
 
 #[derive(Clone, Copy)]
-pub enum Command {
+pub(crate) enum Command {
     Demonstrate,
     Convert(Carrier, Carrier),
     Show(Carrier),
@@ -48,16 +49,6 @@ fn flag_named(word: &str) -> Option<Flag>
     }
 }
 
-fn carrier_named(word: &str) -> Option<Carrier>
-    ensures { λ r. ⌜ Names carrier-name (now (word .entry)) r ⌝ }
-{
-    match word {
-        "ascii" => Some(Carrier::Ascii),
-        "unicode" => Some(Carrier::Unicode),
-        _ => None,
-    }
-}
-
 // The carriers that the options name.
 #[derive(Clone, Copy)]
 struct Options {
@@ -89,7 +80,7 @@ impl Options {
                     flag_named(word.as_str()).ok_or(Failure::Usage("no such option"))?,
                 ),
                 Some(f) => {
-                    let carrier = carrier_named(word.as_str()).ok_or(Failure::Usage(
+                    let carrier = Carrier::named(word.as_str()).ok_or(Failure::Usage(
                         "a carrier is ascii or unicode",
                     ))?;
                     options.set(f, carrier)?;
@@ -104,7 +95,7 @@ impl Options {
     }
 }
 
-pub fn parse(args: Args) -> Result<Command, Failure> {
+pub(crate) fn parse(args: Args) -> Result<Command, Failure> {
     let mut words = args.skip(1);
     let Some(first) = words.next() else {
         return Ok(Command::Demonstrate);

@@ -25,7 +25,7 @@ use console::show::Notation;
 
 const LABEL: AsciiStrip<'static> = AsciiStrip(b"BIN #B,B OR #E;B");
 
-pub fn run(rt: &LibcRuntime) -> Result<(), Failure> {
+pub(crate) fn run(rt: &LibcRuntime) -> Result<(), Failure> {
     println!(rt, "The label \"bin 2B or 5b\" on a strip of 16 cells:\n")?;
     show(rt, &LABEL)?;
     println!(

@@ -5,7 +5,7 @@ use std::fmt;
 use std::io;
 
 #[derive(Drop)]
-pub enum Failure {
+pub(crate) enum Failure {
     // the arguments are no command
     Usage(&'static str),
     // no cell stands at this place of the input, but these bytes

@@ -21,7 +21,7 @@ fn input(rt: &LibcRuntime) -> Result<Vec<u8>, Failure> {
 }
 
 // Writes the input in the other carrier, or nothing.
-pub fn convert_input(rt: &LibcRuntime, from: Carrier, to: Carrier) -> Result<(), Failure> {
+pub(crate) fn convert_input(rt: &LibcRuntime, from: Carrier, to: Carrier) -> Result<(), Failure> {
     let bytes = input(rt)?;
     let Some(size) = bytes.len().checked_mul(to.width()) else {
         return Err(Failure::NoMemory);
@@ -37,7 +37,7 @@ pub fn convert_input(rt: &LibcRuntime, from: Carrier, to: Carrier) -> Result<(),
     }
 }
 
-pub fn show_input(rt: &LibcRuntime, from: Carrier) -> Result<(), Failure> {
+pub(crate) fn show_input(rt: &LibcRuntime, from: Carrier) -> Result<(), Failure> {
     let bytes = input(rt)?;
     match from {
         Carrier::Ascii => show(rt, &AsciiStrip(bytes.as_slice())),
@@ -49,7 +49,7 @@ pub fn show_input(rt: &LibcRuntime, from: Carrier) -> Result<(), Failure> {
 const ROW: usize = 40;
 
 // Prints rows of dots with their Braille ASCII below, each with the number of its first place.
-pub fn show<S: Strip>(rt: &LibcRuntime, strip: &S) -> Result<(), Failure> {
+pub(crate) fn show<S: Strip>(rt: &LibcRuntime, strip: &S) -> Result<(), Failure> {
     println!(rt, "       0         10        20        30")?;
     for count in 0..strip.len().div_ceil(ROW) {
         let start = count.saturating_mul(ROW);
@@ -62,7 +62,7 @@ pub fn show<S: Strip>(rt: &LibcRuntime, strip: &S) -> Result<(), Failure> {
 }
 
 // The places from start up to end.
-pub fn row<S: Strip>(
+pub(crate) fn row<S: Strip>(
     rt: &LibcRuntime,
     strip: &S,
     notation: Notation,
@@ -79,7 +79,7 @@ pub fn row<S: Strip>(
 }
 
 // Bytes in hexadecimal.
-pub fn hexadecimal(rt: &LibcRuntime, bytes: &[u8]) -> Result<String, Failure> {
+pub(crate) fn hexadecimal(rt: &LibcRuntime, bytes: &[u8]) -> Result<String, Failure> {
     let mut text = String::new(rt.alloc());
     for byte in bytes {
         if !text.is_empty() {
