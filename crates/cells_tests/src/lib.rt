@@ -10,4 +10,6 @@ mod display;
 #[cfg(test)]
 mod pressing;
 #[cfg(test)]
+mod single;
+#[cfg(test)]
 mod unicode;
