@@ -8,7 +8,7 @@ use Rattle.cells.proofs.ascii.cell_of.Needs as need
 
 pub returns-then-byte-lt32 : need.returns-then-byte-lt32
 returns-then-byte-lt32 c =
-    record { value = sym (no-cell (c .args .byte) (⊎-elim (λ low. inl low) (λ high. inr (high .1)) (c .then-byte-lt32 .either))); bijection = bijection }
+    record { value = sym (no-cell (c .args .byte) (⊎-elim (λ low. inl (omega arith)) (λ high. inr (omega (arith, high .1))) (c .then-byte-lt32 .either))); bijection = bijection }
 
 pub returns : need.returns
 unfolding characters inverse cell-of

@@ -1,4 +1,5 @@
 use mathlib.Core.Path.{ap, _∙_}
+use borrow.Author.Needs.{needs}
 use Rattle.std.specs.declared.option.Option.the-variants.{Some}
 use Rattle.carriers.specs.Carriers.{ascii-place}
 use Rattle.cells.proofs.Items.{nth-map, nth-map-past}
@@ -6,7 +7,7 @@ use Rattle.carriers.proofs.ascii.AsciiStripStrip.at.Needs as need
 
 pub returns-then-place-self : need.returns-then-place-self
 returns-then-place-self c =
-    ap Some (c .place-of .ensures) ∙ nth-map ascii-place (c .args .self .now .0 .now) (c .args .place) 0 (c .if-place-self .taken)
+    ap Some (c .place-of .ensures) ∙ nth-map ascii-place (c .args .self .now .0 .now) (c .args .place) 0 (search needs)
 
 pub returns-else-place-self : need.returns-else-place-self
-returns-else-place-self c = nth-map-past ascii-place (c .args .self .now .0 .now) (c .args .place) (c .if-place-self .left)
+returns-else-place-self c = nth-map-past ascii-place (c .args .self .now .0 .now) (c .args .place) (search needs)
