@@ -1,17 +1,19 @@
 -- Braille ASCII and its inverse.
-use mathlib.Core.Bool.{true, false}
+use mathlib.Core.Bool.{Bool, true, false}
 use mathlib.Core.List.{List, map, reverse}
 use mathlib.Core.Logic.{_⊎_, inl, inr}
-use mathlib.Core.Path.{_≡_, refl}
+use mathlib.Core.Path.{_≡_, refl, ap}
 use Prim.Native.Nat.{ℕ, _+_, _-_, _<_, _≤_}
 use native.Mathlib.Omega.{arith}
 use lib.ListN.{getD}
 use Rattle.std.specs.Options.{valueOr}
+use Rattle.std.specs.declared.option.Option.{Option}
 use Rattle.std.specs.declared.option.Option.the-variants.{Some, None}
 use Rattle.std.proofs.shelf.Maps.{nth-getD, nth-past}
 use Rattle.std.proofs.shelf.Tests.{cases-lt, lt-ltb, le-ltb}
 use Rattle.cells.specs.Cells.{is-cell, characters, byte-of, cell-of, Bijection}
-use Rattle.cells.proofs.Tables.{below, agree, no-index}
+use Rattle.cells.specs.Lists.{all}
+use Rattle.cells.proofs.Tables.{below, agree, within, no-index}
 
 -- the character of a cell, and the cell of the k-th character, as plain numbers
 abbrev pub character : ℕ → ℕ
@@ -20,28 +22,39 @@ character cell = getD characters cell 0
 unfoldable pub inverse : List ℕ
 inverse = map (λ k. valueOr (cell-of (k + 32)) 0) (reverse (below 64))
 
-pub byte-at : (cell : ℕ) → cell < 64 → byte-of cell ≡ Some (character cell)
-unfolding characters byte-of cell-of
-byte-at cell h = nth-getD characters cell 0 h
+-- The whole table by one computed test: at each place what the two tables answer of each other, and the range of the characters.
+abbrev answers : ℕ → Option ℕ × (Option ℕ × Option ℕ)
+answers k = (cell-of (k + 32), (byte-of (getD inverse k 0), cell-of (character k)))
+
+abbrev right : ℕ → Option ℕ × (Option ℕ × Option ℕ)
+right k = (Some (getD inverse k 0), (Some (k + 32), Some k))
+
+table : _≡_ {A = List (Option ℕ × (Option ℕ × Option ℕ)) × Bool} (map answers (below 64), all (within 0x20 0x5F) characters) (map right (below 64), true)
+unfolding characters byte-of cell-of inverse
+table = refl
+
+at-each : (k : ℕ) → k < 64 → answers k ≡ right k
+at-each k h = agree answers right 64 (ap (λ t. t .0) table) k h
 
 pub cell-at : (k : ℕ) → k < 64 → cell-of (k + 32) ≡ Some (getD inverse k 0)
-unfolding characters byte-of cell-of inverse
-cell-at k h = agree (λ k. cell-of (k + 32)) (λ k. Some (getD inverse k 0)) 64 refl k h
-
-pub back-to-cell : (cell : ℕ) → cell < 64 → cell-of (character cell) ≡ Some cell
-unfolding characters byte-of cell-of
-back-to-cell cell h = agree (λ c. cell-of (character c)) Some 64 refl cell h
+cell-at k h = ap (λ t. t .0) (at-each k h)
 
 back-to-byte : (k : ℕ) → k < 64 → byte-of (getD inverse k 0) ≡ Some (k + 32)
-unfolding characters byte-of cell-of inverse
-back-to-byte k h = agree (λ k. byte-of (getD inverse k 0)) (λ k. Some (k + 32)) 64 refl k h
+back-to-byte k h = ap (λ t. t .1 .0) (at-each k h)
+
+back-to-cell : (cell : ℕ) → cell < 64 → cell-of (character cell) ≡ Some cell
+back-to-cell cell h = ap (λ t. t .1 .1) (at-each cell h)
 
 pub no-cell : (byte : ℕ) → ((byte < 0x20) ⊎ (0x5F < byte)) → cell-of byte ≡ None
-unfolding characters byte-of cell-of
-no-cell byte out = no-index byte 0x20 0x5F out 0 characters refl
+unfolding cell-of
+no-cell byte out = no-index byte 0x20 0x5F out 0 characters (ap (λ t. t .1) table)
+
+pub byte-at : (cell : ℕ) → cell < 64 → byte-of cell ≡ Some (character cell)
+unfolding characters byte-of
+byte-at cell h = nth-getD characters cell 0 h
 
 pub no-byte : (cell : ℕ) → 64 ≤ cell → byte-of cell ≡ None
-unfolding characters byte-of cell-of
+unfolding characters byte-of
 no-byte cell h = nth-past characters cell h
 
 pub cell-from-byte : (cell byte : ℕ) → byte-of cell ≡ Some byte → cell-of byte ≡ Some cell

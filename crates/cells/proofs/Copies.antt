@@ -17,8 +17,7 @@ use Rattle.std.proofs.shelf.Maps.{nth-getD}
 use Rattle.std.proofs.shelf.Tests.{and-parts, cond-true}
 use Rattle.cells.specs.Cells.{is-cell}
 use Rattle.cells.specs.Lists.{all}
-use Rattle.cells.specs.Places.{cell-place, cell-places}
-use Rattle.cells.specs.Places.{has-cell, cell-in, first-gap}
+use Rattle.cells.specs.Places.{has-cell, cell-in, first-gap, cell-place, cell-places}
 use Rattle.cells.specs.Pressing.{takes-all, unless-gap, if-room, copied}
 use Rattle.cells.specs.Refusals.{Answer, granted, refused, told}
 use Rattle.cells.specs.declared.refusal.CopyRefusal.{CopyRefusal}

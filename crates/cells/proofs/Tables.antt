@@ -1,4 +1,4 @@
--- Rules of a whole table, each by one computed test.
+-- How a computed test of a whole table gives its rule at each entry.
 use mathlib.Core.Bool.{Bool, true, false, _&&_}
 use mathlib.Core.List.{List, [], _∷_, map}
 use mathlib.Core.Logic.{_⊎_, inl, inr}

@@ -1,8 +1,7 @@
 // A tape in the one carrier, pressed again in the other.
 ghost use mathlib.Core.Path.{_≡_};
 ghost use lib.ListN.{length};
-ghost use Rattle.console.specs.Converting.{carrier-places};
-ghost use Rattle.console.specs.Converting.{embossed, bytes-told};
+ghost use Rattle.console.specs.Converting.{bytes-told, carrier-places, embossed};
 use crate::carrier::Carrier;
 use carriers::ascii::AsciiStrip;
 use carriers::ascii::AsciiStripStrip;
