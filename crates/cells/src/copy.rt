@@ -26,7 +26,7 @@ pub fn copy_strip<S: Strip, E: Embosser>(from: &S, to: &mut E) -> Result<usize, 
     }
     for place in 0..cells {
         let Some(cell) = cell_at(from, place) else {
-            unreachable()
+            unreachable!()
         };
         let _ = to.press(cell);
     }

@@ -1,4 +1,5 @@
 // The program `label`: tapes of braille labels at the command line.
+#![tactic(auto)]
 mod command;
 mod demonstration;
 mod failure;

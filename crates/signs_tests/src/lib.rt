@@ -1,4 +1,5 @@
 // Examples of signs, sign tables and house signs, each proved and run.
+#![tactic(auto)]
 #[cfg(test)]
 mod braille;
 #[cfg(test)]

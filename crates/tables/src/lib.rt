@@ -1,4 +1,5 @@
 // The sign tables of the product: the print signs of UEB, and house signs over any table.
+#![tactic(auto)]
 pub mod clash;
 pub mod house;
 mod house_codes;

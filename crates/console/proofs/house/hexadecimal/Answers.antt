@@ -6,15 +6,15 @@ use Rattle.console.proofs.house.hexadecimal.Goals as goal
 
 pub loop-digit-preserved : goal.loop-digit-preserved
 loop-digit-preserved c =
-    sym (digit_on c.loop-digit.value c.in-ok-value.value c.digit-item.result c.args.digits.now c.loop-digit.digit-index
-    c.loop-digit-test.true c.digit-item.is c.in-ok-value.ensures)
+    sym (digit_on c.loop-digit.value c.in_ok-value.value c.digit-item.result c.args.digits.now c.loop-digit.digit-index
+    c.loop-digit-test.true c.digit-item.is c.in_ok-value.ensures)
     ∙ c.loop-digit.invariant
 
-pub returns-in-err-value : goal.returns-in-err-value
-returns-in-err-value c =
-    c.from-residual.ensures
+pub returns-in_err-value : goal.returns-in_err-value
+returns-in_err-value c =
+    c.from_residual.ensures
     ∙ sym (sym c.loop-digit.invariant ∙ no_digit c.loop-digit.value c.digit-item.result c.args.digits.now c.loop-digit.digit-index
-    c.loop-digit-test.true c.digit-item.is c.in-err-value.ensures)
+    c.loop-digit-test.true c.digit-item.is c.in_err-value.ensures)
 
 pub returns : goal.returns
 returns c =

@@ -4,7 +4,7 @@ use Rattle.signs.specs.Listings.{entry_of}
 use Rattle.signs.specs.Tables.{look_up, or_match}
 use Rattle.signs.proofs.Tables.{look_up_more, entry_there}
 use Rattle.signs.proofs.listing.look_up.Goals as goal
-use Rattle.signs.proofs.listing.look_up.Goals.{in-Some, in-default}
+use Rattle.signs.proofs.listing.look_up.Goals.{in-Some, in_default}
 
 pub loop-number-preserved : goal.loop-number-preserved
 loop-number-preserved g c =
@@ -14,9 +14,9 @@ loop-number-preserved g c =
     let h : n < length es = omega (arith, c.count-number-end.ensures) in
     elim c.match-listed.branch [
       | in-Some w ↦
-          w.found-is ∙ w.or-found.ensures ∙ (λ i. or_match (c.loop-number.invariant i) (w.look-up.ensures i))
+          w.found-is ∙ w.or-found.ensures ∙ (λ i. or_match (c.loop-number.invariant i) (w.look_up.ensures i))
           ∙ sym (look_up_more es n (entry_of w.in-Some.listed) cells h w.in-Some.ensures)
-      | in-default w ↦ absurd (entry_there es n h w.in-default.ensures)
+      | in_default w ↦ absurd (entry_there es n h w.in_default.ensures)
     ]
 
 pub returns : goal.returns

@@ -5,7 +5,7 @@ use Rattle.signs.specs.Listings.{entry_of}
 use Rattle.signs.specs.Tables.{string_of}
 use Rattle.signs.proofs.Tables.{string_of_more, entry_there}
 use Rattle.signs.proofs.listing.string_of.Goals as goal
-use Rattle.signs.proofs.listing.string_of.Goals.{in-Some+else-listed-code, in-default}
+use Rattle.signs.proofs.listing.string_of.Goals.{in-Some+else-listed-code, in_default}
 
 pub returns-then-listed-code : goal.returns-then-listed-code
 returns-then-listed-code g c =
@@ -24,7 +24,7 @@ loop-number-preserved g c =
       | in-Some+else-listed-code w ↦
           sym (sym c.loop-number.invariant ∙ string_of_more es n (entry_of w.in-Some.listed) c.args.code h w.in-Some.ensures
           ∙ cond-false _ _ _ (ne_eqb _ _ (λ e. w.if-listed-code.false (sym e))))
-      | in-default w ↦ absurd (entry_there es n h w.in-default.ensures)
+      | in_default w ↦ absurd (entry_there es n h w.in_default.ensures)
     ]
 
 pub returns : goal.returns

@@ -20,7 +20,7 @@ loop-position-preserved g c =
     let codes = c.args.codes.now in
     let n = c.loop-position.position in
     sym (sym c.loop-position.invariant ∙ lowest_more below codes n c.if-codes-gt5.false c.loop-position-test.true
-    ∙ ap (λ o. or_clash o n (lowest_clash below codes (n + 1) (drop (n + 1) (house codes)))) (sym c.in-default.ensures))
+    ∙ ap (λ o. or_clash o n (lowest_clash below codes (n + 1) (drop (n + 1) (house codes)))) (sym c.in_default.ensures))
 
 pub returns : goal.returns
 returns g c =

@@ -5,9 +5,9 @@ use Rattle.cells.proofs.Memory.{behind_more}
 use Rattle.carriers.proofs.AsciiBytes.{cell_more, pressed_more}
 use Rattle.carriers.proofs.ascii.AsciiTapeEmbosser.press.Goals as goal
 
-pub returns-in-default : goal.returns-in-default
-returns-in-default c =
-    record { answer = sym (and_left _ _ (no_cell_without c.args.cell c.in-default.ensures)); places = refl; room = refl; unused = refl }
+pub returns-in_default : goal.returns-in_default
+returns-in_default c =
+    record { answer = sym (and_left _ _ (no_cell_without c.args.cell c.in_default.ensures)); places = refl; room = refl; unused = refl }
 
 pub invariant-of-self : goal.invariant-of-self
 invariant-of-self c =

@@ -10,14 +10,14 @@ returns-then-place-self c =
     let bytes = c.args.self.now.0.now in
     sym (slice_get_past (unicode_places bytes) c.args.place (omega (arith, length_unicode bytes)))
 
-pub returns-in-err-first : goal.returns-in-err-first
-returns-in-err-first c =
+pub returns-in_err-first : goal.returns-in_err-first
+returns-in_err-first c =
     let bytes = c.args.self.now.0.now in
-    c.from-residual.ensures
-    ∙ ap place_in (c.in-err-first.ensures ∙ ap first_group (take_rest bytes _))
+    c.from_residual.ensures
+    ∙ ap place_in (c.in_err-first.ensures ∙ ap first_group (take_rest bytes _))
     ∙ sym (nth_unicode c.args.place bytes)
 
 pub returns : goal.returns
 returns c =
     let bytes = c.args.self.now.0.now in
-    ap place_in (c.in-ok-first.ensures ∙ ap first_group (take_rest bytes _)) ∙ sym (nth_unicode c.args.place bytes)
+    ap place_in (c.in_ok-first.ensures ∙ ap first_group (take_rest bytes _)) ∙ sym (nth_unicode c.args.place bytes)

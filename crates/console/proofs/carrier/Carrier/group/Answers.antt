@@ -9,6 +9,6 @@ returns c =
     let width = bytes_a_cell c.args.self in
     let same : c.width-width.result ≡ width = c.width-width.ensures in
     let n : c.args.place * c.width-width.result ≡ c.args.place * width = ap (λ w. c.args.place * w) same in
-    let start : c.min-start.result ≡ min (c.args.place * width) (length bytes) = omega (arith, n, c.saturating-mul.ensures, c.min-start.ensures, c.well-formed) in
-    let end : c.min-end.result ≡ min (c.min-start.result + width) (length bytes) = omega (arith, same, c.saturating-add.ensures, c.min-end.ensures, c.well-formed) in
+    let start : c.min-start.result ≡ min (c.args.place * width) (length bytes) = omega (arith, n, c.saturating_mul.ensures, c.min-start.ensures, c.well_formed) in
+    let end : c.min-end.result ≡ min (c.min-start.result + width) (length bytes) = omega (arith, same, c.saturating_add.ensures, c.min-end.ensures, c.well_formed) in
     part_to_end bytes (c.args.place * width) width c.min-start.result c.min-end.result start end

@@ -4,22 +4,22 @@ use Rattle.signs.specs.Tables.{or_match, is_neither}
 use Rattle.tables.specs.Houses.{laid_look_up, below_look_up}
 use Rattle.tables.proofs.house.HouseSignsSignTable.look_up.Goals as goal
 
-pub returns-then-is-neither : goal.returns-then-is-neither
-returns-then-is-neither g c =
+pub returns-then-is_neither : goal.returns-then-is_neither
+returns-then-is_neither g c =
     let below = g.T.SignTable.pairs c.args.self.now.below in
     let codes = take c.args.self.now.codes.count c.args.self.now.codes.codes in
-    c.look-up-below.ensures
-    ∙ sym (below_look_up below codes c.args.cells.now (c.if-is-neither.ensures ∙ ap is_neither c.look-up-found.ensures))
+    c.look_up-below.ensures
+    ∙ sym (below_look_up below codes c.args.cells.now (c.if-is_neither.ensures ∙ ap is_neither c.look_up-found.ensures))
 
-pub returns-then-is-laid : goal.returns-then-is-laid
-returns-then-is-laid g c =
+pub returns-then-is_laid : goal.returns-then-is_laid
+returns-then-is_laid g c =
     let below = g.T.SignTable.pairs c.args.self.now.below in
     let codes = take c.args.self.now.codes.count c.args.self.now.codes.codes in
-    c.or.ensures ∙ (λ i. or_match (c.look-up-found.ensures i) (c.look-up-below.ensures i))
-    ∙ sym (laid_look_up below codes c.args.cells.now ∙ cond-true _ _ _ (sym c.if-is-laid.ensures))
+    c.or.ensures ∙ (λ i. or_match (c.look_up-found.ensures i) (c.look_up-below.ensures i))
+    ∙ sym (laid_look_up below codes c.args.cells.now ∙ cond-true _ _ _ (sym c.if-is_laid.ensures))
 
-pub returns-else-is-laid : goal.returns-else-is-laid
-returns-else-is-laid g c =
+pub returns-else-is_laid : goal.returns-else-is_laid
+returns-else-is_laid g c =
     let below = g.T.SignTable.pairs c.args.self.now.below in
     let codes = take c.args.self.now.codes.count c.args.self.now.codes.codes in
-    c.look-up-below.ensures ∙ sym (laid_look_up below codes c.args.cells.now ∙ cond-false _ _ _ (sym c.if-is-laid.ensures))
+    c.look_up-below.ensures ∙ sym (laid_look_up below codes c.args.cells.now ∙ cond-false _ _ _ (sym c.if-is_laid.ensures))
