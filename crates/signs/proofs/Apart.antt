@@ -1,6 +1,6 @@
 -- The strings of a lawful table, the fixed cells, the indicators and the accents: none begins another, so at most one begins any cells.
 use Rattle.std.proofs.Common.{◌≡◌, ℕ, suc, ◌<◌, ◌≤◌, Bool, true, false, cond, ◌&&◌, eqb, List, [], ◌∷◌, ◌++◌, map, length, get_or, refl, ◌∙◌, zero-le, arith}
-use Rattle.std.specs.List.{AllByRecursion as All}
+use Rattle.std.specs.List.{AllByRecursion}
 use Rattle.std.proofs.ByRecursion.{All-weaker, All-append, All-map}
 use Rattle.std.proofs.lemmas.Bool.{and_parts, and_left, and_right, both_ways, eq-eqb, eqb-true, ne_eqb}
 use Rattle.std.proofs.lemmas.Bool.Decides.{nat_tests}
@@ -43,17 +43,17 @@ pair_apart x c d (y ∷ []) l a h = (h, a)
 pair_apart x c d (y ∷ z ∷ []) l a h = (h, rw (eqb_sym y x, eqb_sym z c) h)
 pair_apart x c d (y ∷ z ∷ t ∷ ts) l a h = (h, and_right (eqb y x) (eqb z c && false) (and_right (eqb z c) false refl))
 
-no_blank : (s : List ℕ) → 1 ≤ length s → All (λ c. (0 < c) × (c < 64)) s → begins (0 ∷ []) s ≡ false
+no_blank : (s : List ℕ) → 1 ≤ length s → AllByRecursion (λ c. (0 < c) × (c < 64)) s → begins (0 ∷ []) s ≡ false
 no_blank [] l h = refl
 no_blank (c ∷ s) l h = and_left (eqb 0 c) true (ne_eqb 0 c (λ e. omega arith))
 
-plain_single : All (λ σ. length (string σ) ≡ 1) plain
+plain_single : AllByRecursion (λ σ. length (string σ) ≡ 1) plain
 plain_single = all_true (λ σ. eqb (length (string σ)) 1) (λ σ. length (string σ) ≡ 1) (λ σ h. eqb-true (length (string σ)) 1 h) plain refl
 
 abbrev From : List ℕ → KnownBy → Type 0
 From s k = Apart k.1 s
 
-always_apart : (s : List ℕ) → LawfulString s → All (From s) always
+always_apart : (s : List ℕ) → LawfulString s → AllByRecursion (From s) always
 always_apart s h =
     All-append (From s) (map by_string (blank ∷ (plain ++ (indicators ++ accent_symbols)))) (map by_next follow_capital)
     (All-map (From s) by_string (blank ∷ (plain ++ (indicators ++ accent_symbols))) (
@@ -73,8 +73,8 @@ known_free table h =
     pairwise_append (λ (k l : KnownBy). Apart k.1 l.1) always (map by_entry table) always_free
     (pairwise_map (λ (k l : KnownBy). Apart k.1 l.1) by_entry table h.free)
     (all_swap (λ (k l : KnownBy). Apart k.1 l.1) always (map by_entry table)
-    (All-map (λ (l : KnownBy). All (From l.1) always) by_entry table
-    (All-weaker (λ (e : Entry). LawfulString e.1) (λ (e : Entry). All (From e.1) always) (λ e k. always_apart e.1 k) table h.strings)))
+    (All-map (λ (l : KnownBy). AllByRecursion (From l.1) always) by_entry table
+    (All-weaker (λ (e : Entry). LawfulString e.1) (λ (e : Entry). AllByRecursion (From e.1) always) (λ e k. always_apart e.1 k) table h.strings)))
 
 -- At most one begins any cells
 
@@ -98,7 +98,7 @@ not_both (x ∷ s) (y ∷ t) (z ∷ cells) a h =
 abbrev Begins : List ℕ → KnownBy → Bool
 Begins cells k = begins k.1 cells
 
-none_more : (cells s : List ℕ) (ks : List KnownBy) → begins s cells ≡ true → All (λ (l : KnownBy). Apart s l.1) ks → how_many (Begins cells) ks ≡ 0
+none_more : (cells s : List ℕ) (ks : List KnownBy) → begins s cells ≡ true → AllByRecursion (λ (l : KnownBy). Apart s l.1) ks → how_many (Begins cells) ks ≡ 0
 none_more cells s [] h a = refl
 none_more cells s (k ∷ ks) h a = rw (not_both s k.1 cells a.0 h) (none_more cells s ks h a.1)
 

@@ -1,9 +1,8 @@
 -- Strings that begin others.
-use Rattle.std.proofs.Common.{◌≡◌, ℕ, Bool, true, false, ◌&&◌, eqb, List, [], ◌∷◌, ◌++◌, length, take, drop, Decides, refl, ap, ◌∙◌, arith}
-use Rattle.std.specs.Cmp.Lexicographic.{Matches}
-use Rattle.std.proofs.lemmas.Slice.Eq.{starts_is}
+use Rattle.std.proofs.Common.{◌≡◌, ℕ, Bool, true, false, ◌&&◌, ◌==◌, nat_eq, eqb, List, [], ◌∷◌, ◌++◌, length, take, drop, refl, ap, ◌∙◌, arith}
+use Rattle.std.specs.List.{starts_with}
 use Rattle.std.proofs.lemmas.Bool.{and_parts, both_ways, eq-eqb, eqb-true}
-use Rattle.std.proofs.lemmas.Bool.Decides.{same_from_decides, nat_tests, Decides-eqb}
+use Rattle.std.proofs.lemmas.Bool.Decides.{nat_tests}
 use Rattle.signs.specs.Strings.{same, begins}
 
 pub begins_front : (s t : List ℕ) → begins s (s ++ t) ≡ true
@@ -20,12 +19,13 @@ front_of (x ∷ p) (y ∷ s) h =
     rw e (ap (λ t. y ∷ t) rest)
 
 -- what `starts_with` answers
-pub starts_begins : (p s : List ℕ) (r : Bool) → Matches (λ (a b : ℕ) (t : Bool). Decides t (a ≡ b)) p (take (length p) s) r → r ≡ begins p s
-starts_begins p s r h =
-    let k = starts_is Decides-eqb s p r h in
-    same_from_decides {P = s ≡ p ++ drop (length p) s} r (begins p s)
-    (k.0, λ e. k.1 (drop (length p) s) e)
-    (front_of p s, λ e. ap (begins p) e ∙ begins_front p (drop (length p) s))
+starts_front : (p s : List ℕ) → starts_with nat_eq s p ≡ begins p s
+starts_front [] s = refl
+starts_front (x ∷ p) [] = refl
+starts_front (x ∷ p) (y ∷ s) = ap (λ b. (x == y) && b) (starts_front p s)
+
+pub starts_begins : (p s : List ℕ) (r : Bool) → r ≡ starts_with nat_eq s p → r ≡ begins p s
+starts_begins p s r h = h ∙ starts_front p s
 
 -- a string is the same as cells that begin it and are as many
 pub same_as_long : (s cells : List ℕ) → same s cells ≡ (begins cells s && eqb (length cells) (length s))

@@ -1,6 +1,6 @@
 -- A string of three cells is apart from all strings of a table, by what the table answers of its beginnings.
 use Rattle.std.proofs.Common.{◌≡◌, ℕ, ◌≤◌, Bool, true, false, cond, not, ◌&&◌, ◌||◌, List, [], ◌∷◌, length, take, is_some, Some, None, Option, sym, refl, ◌∙◌, arith}
-use Rattle.std.specs.List.{AllByRecursion as All}
+use Rattle.std.specs.List.{AllByRecursion}
 use Rattle.std.proofs.ByRecursion.{All-weaker}
 use Rattle.tables.specs.House.{is_clear}
 use Rattle.signs.specs.Laws.{Lawful, LawfulString}
@@ -42,7 +42,7 @@ module _ (a b c : ℕ) where
       not (is_some (code_of table (a ∷ []))) && (not (is_some (code_of table (a ∷ b ∷ [])))
       && (not (is_some (code_of table (a ∷ b ∷ c ∷ []))) && not (begin_one table (a ∷ b ∷ c ∷ []))))
 
-  told_clear : (table : Table) → All Short table → is_clear table (a ∷ b ∷ c ∷ []) ≡ told table
+  told_clear : (table : Table) → AllByRecursion Short table → is_clear table (a ∷ b ∷ c ∷ []) ≡ told table
   told_clear [] h = refl
   told_clear (e ∷ es) h =
       rw (code_of_some e es (a ∷ []), code_of_some e es (a ∷ b ∷ []), code_of_some e es (a ∷ b ∷ c ∷ []), begins_three e.1 h.0, told_clear es h.1)

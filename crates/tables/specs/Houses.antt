@@ -2,7 +2,7 @@
 use Rattle.std.specs.Prelude.{◌≡◌, ℕ, zero, suc, ◌+◌, ◌<◌, ◌≤◌, min, Bool, true, false, cond, List, [], ◌∷◌, ◌++◌, map, length, drop, is_some, is_ok, Some, None, Err, Option, Result, ◌==◌, ◌≢◌, nat_lt, slice_index, slice_index_or, refl}
 use Rattle.std.proofs.Common.{sym, ap, ◌∙◌, add-one, arith}
 use Rattle.std.specs.Option.{option_map, option_or}
-use Rattle.std.specs.List.{AllByRecursion as All, slice_get}
+use Rattle.std.specs.List.{AllByRecursion, slice_get}
 use Rattle.std.proofs.ByRecursion.{All-weaker, All-append}
 use Rattle.std.proofs.lemmas.List.{at_drop_more}
 use Rattle.std.proofs.lemmas.Option.{slice_get-get_or}
@@ -57,20 +57,20 @@ lowest_more below codes n few h =
 
 -- What does not clash, part by part
 
-unlisted : (table : Table) (c : ℕ) → lists table c ≡ false → All (λ (f : Entry). c ≢ f.0) table
+unlisted : (table : Table) (c : ℕ) → lists table c ≡ false → AllByRecursion (λ (f : Entry). c ≢ f.0) table
 unlisted [] c h = tt
 unlisted (e ∷ es) c h = go (c == e.0) refl h (unlisted es c)
   where
     go : (b : Bool) → (c == e.0) ≡ b → is_some (cond b (Some e.1) (string_of es c)) ≡ false →
-        (lists es c ≡ false → All (λ (f : Entry). c ≢ f.0) es) → (c ≢ e.0) × All (λ (f : Entry). c ≢ f.0) es
+        (lists es c ≡ false → AllByRecursion (λ (f : Entry). c ≢ f.0) es) → (c ≢ e.0) × AllByRecursion (λ (f : Entry). c ≢ f.0) es
     go true q k rest = absurd (both_ways true k refl)
     go false q k rest = (eqb-false c e.0 q, rest k)
 
 pub record Clear (below : Table) (codes : List ℕ) (e : Entry) : Type 0 where
   pub free : is_fixed e.0 ≡ false
-  pub new : All (λ (f : Entry). e.0 ≢ f.0) below
+  pub new : AllByRecursion (λ (f : Entry). e.0 ≢ f.0) below
   pub single : times e.0 codes < 2
-  pub apart : All (λ (f : Entry). Apart e.1 f.1) below
+  pub apart : AllByRecursion (λ (f : Entry). Apart e.1 f.1) below
 
 -- none of these tests holds
 untold : (a b c d f : Bool) →
@@ -93,12 +93,12 @@ clear below codes e h =
       apart = all_true (λ (f : Entry). apart e.1 f.1) (λ (f : Entry). Apart e.1 f.1) (λ f q. apart_true e.1 f.1 q) below (not-false _ k.3);
     }
 
-none_clash : (below : Table) (codes : List ℕ) (n : ℕ) (es : Table) → is_ok (lowest_clash below codes n es) ≡ true → All (λ e. clash below codes e ≡ None) es
+none_clash : (below : Table) (codes : List ℕ) (n : ℕ) (es : Table) → is_ok (lowest_clash below codes n es) ≡ true → AllByRecursion (λ e. clash below codes e ≡ None) es
 none_clash below codes n [] h = tt
 none_clash below codes n (e ∷ es) h = go (clash below codes e) refl h (none_clash below codes (suc n) es)
   where
     go : (o : Option Clash) → clash below codes e ≡ o → is_ok (or_clash o n (lowest_clash below codes (suc n) es)) ≡ true →
-        (is_ok (lowest_clash below codes (suc n) es) ≡ true → All (λ x. clash below codes x ≡ None) es) → All (λ x. clash below codes x ≡ None) (e ∷ es)
+        (is_ok (lowest_clash below codes (suc n) es) ≡ true → AllByRecursion (λ x. clash below codes x ≡ None) es) → AllByRecursion (λ x. clash below codes x ≡ None) (e ∷ es)
     go (Some why) q k rest = absurd (both_ways false refl k)
     go None q k rest = (q, rest k)
 
@@ -107,17 +107,17 @@ none_clash below codes n (e ∷ es) h = go (clash below codes e) refl h (none_cl
 times_more : (c d : ℕ) (cs : List ℕ) → times c cs ≤ times c (d ∷ cs)
 times_more c d cs = grind (arith, nat_tests)
 
-absent : (c : ℕ) (cs : List ℕ) (ss : List (List ℕ)) → times c cs ≡ 0 → All (λ (f : Entry). c ≢ f.0) (paired cs ss)
+absent : (c : ℕ) (cs : List ℕ) (ss : List (List ℕ)) → times c cs ≡ 0 → AllByRecursion (λ (f : Entry). c ≢ f.0) (paired cs ss)
 absent c [] ss h = tt
 absent c (d ∷ cs) [] h = tt
 absent c (d ∷ cs) (s ∷ ss) h = go (c == d) refl h (absent c cs ss)
   where
-    go : (b : Bool) → (c == d) ≡ b → cond b (suc (times c cs)) (times c cs) ≡ 0 → (times c cs ≡ 0 → All (λ (f : Entry). c ≢ f.0) (paired cs ss)) →
-        (c ≢ d) × All (λ (f : Entry). c ≢ f.0) (paired cs ss)
+    go : (b : Bool) → (c == d) ≡ b → cond b (suc (times c cs)) (times c cs) ≡ 0 → (times c cs ≡ 0 → AllByRecursion (λ (f : Entry). c ≢ f.0) (paired cs ss)) →
+        (c ≢ d) × AllByRecursion (λ (f : Entry). c ≢ f.0) (paired cs ss)
     go true q k rest = absurd (omega arith)
     go false q k rest = (eqb-false c d q, rest k)
 
-paired_all : (P : List ℕ → Type 0) (cs : List ℕ) (ss : List (List ℕ)) → All P ss → All (λ (e : Entry). P e.1) (paired cs ss)
+paired_all : (P : List ℕ → Type 0) (cs : List ℕ) (ss : List (List ℕ)) → AllByRecursion P ss → AllByRecursion (λ (e : Entry). P e.1) (paired cs ss)
 paired_all P [] ss h = tt
 paired_all P (c ∷ cs) [] h = tt
 paired_all P (c ∷ cs) (s ∷ ss) h = (h.0, paired_all P cs ss h.1)
@@ -128,7 +128,7 @@ paired_pairs R (c ∷ cs) [] h = tt
 paired_pairs R (c ∷ cs) (s ∷ ss) h = (paired_all (R s) cs ss h.0, paired_pairs R cs ss h.1)
 
 paired_once : (codes cs : List ℕ) (ss : List (List ℕ)) → ((c : ℕ) → times c cs ≤ times c codes) →
-    All (λ (e : Entry). times e.0 codes < 2) (paired cs ss) → Pairwise (λ (e f : Entry). e.0 ≢ f.0) (paired cs ss)
+    AllByRecursion (λ (e : Entry). times e.0 codes < 2) (paired cs ss) → Pairwise (λ (e f : Entry). e.0 ≢ f.0) (paired cs ss)
 paired_once codes [] ss m h = tt
 paired_once codes (c ∷ cs) [] m h = tt
 paired_once codes (c ∷ cs) (s ∷ ss) m h =
@@ -139,18 +139,18 @@ paired_once codes (c ∷ cs) (s ∷ ss) m h =
 house_lawful : (below : Table) (codes : List ℕ) → Lawful below → is_ok (lowest_clash below codes 0 (house codes)) ≡ true → Lawful (house codes ++ below)
 house_lawful below codes law h =
     let es = house codes in
-    let ok : All (Clear below codes) es = All-weaker (λ e. clash below codes e ≡ None) (Clear below codes) (clear below codes) es (none_clash below codes 0 es h) in
+    let ok : AllByRecursion (Clear below codes) es = All-weaker (λ e. clash below codes e ≡ None) (Clear below codes) (clear below codes) es (none_clash below codes 0 es h) in
     record {
       once = pairwise_append (λ (e f : Entry). e.0 ≢ f.0) es below
           (paired_once codes codes house_strings (λ c. omega arith) (All-weaker (Clear below codes) (λ (e : Entry). times e.0 codes < 2) (λ e k. k.single) es ok))
-          law.once (All-weaker (Clear below codes) (λ (e : Entry). All (λ (f : Entry). e.0 ≢ f.0) below) (λ e k. k.new) es ok);
+          law.once (All-weaker (Clear below codes) (λ (e : Entry). AllByRecursion (λ (f : Entry). e.0 ≢ f.0) below) (λ e k. k.new) es ok);
       unfixed = All-append (λ (e : Entry). is_fixed e.0 ≡ false) es below
           (All-weaker (Clear below codes) (λ (e : Entry). is_fixed e.0 ≡ false) (λ e k. k.free) es ok) law.unfixed;
       strings = All-append (λ (e : Entry). LawfulString e.1) es below
           (paired_all LawfulString codes house_strings (all_true lawful_string LawfulString string_true house_strings refl)) law.strings;
       free = pairwise_append (λ (e f : Entry). Apart e.1 f.1) es below
           (paired_pairs Apart codes house_strings (pairwise_true apart Apart apart_true house_strings refl)) law.free
-          (All-weaker (Clear below codes) (λ (e : Entry). All (λ (f : Entry). Apart e.1 f.1) below) (λ e k. k.apart) es ok);
+          (All-weaker (Clear below codes) (λ (e : Entry). AllByRecursion (λ (f : Entry). Apart e.1 f.1) below) (λ e k. k.apart) es ok);
     }
 
 ok_parts : (b : Bool) (r : Result (Unit {0}) HouseRefusal) → is_ok (cond b (Err TooMany) r) ≡ true → is_ok r ≡ true

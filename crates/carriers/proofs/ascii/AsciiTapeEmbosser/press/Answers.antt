@@ -9,11 +9,11 @@ pub returns-in_default : goal.returns-in_default
 returns-in_default c =
     record { answer = sym (and_left _ _ (no_cell_without c.args.cell c.in_default.ensures)); places = refl; room = refl; unused = refl }
 
-pub invariant-of-self : goal.invariant-of-self
-invariant-of-self c =
+pub invariant_of-self : goal.invariant_of-self
+invariant_of-self c =
     let tape = c.args.self.now in
     let h : tape.used < length tape.bytes.now = search rules in
-    (search rules, (pressed_more tape.bytes.now tape.used c.args.cell c.in-Some.byte c.in-Some.ensures h tape.pressed, tt))
+    record { fits = search rules; pressed = pressed_more tape.bytes.now tape.used c.args.cell c.in-Some.byte c.in-Some.ensures h tape.pressed }
 
 pub returns : goal.returns
 returns c =

@@ -3,22 +3,22 @@ use Rattle.std.proofs.lemmas.Bool.{lt-ltb}
 use Rattle.carriers.proofs.UnicodeBytes.{behind_groups, cell_more, pressed_more, front_kept}
 use Rattle.carriers.proofs.unicode.UnicodeTapeEmbosser.press.Goals as goal
 
-pub invariant-of-self : goal.invariant-of-self
-invariant-of-self c =
+pub invariant_of-self : goal.invariant_of-self
+invariant_of-self c =
     let tape = c.args.self.now in
-    (search rules, (front_kept tape.bytes.now (3 * tape.used) (3 * tape.used) 0xE2 (omega arith) tape.pressed, tt))
+    record { fits = search rules; pressed = front_kept tape.bytes.now (3 * tape.used) (3 * tape.used) 0xE2 (omega arith) tape.pressed }
 
-pub invariant-of-self-2 : goal.invariant-of-self-2
-invariant-of-self-2 c =
+pub invariant_of-self-2 : goal.invariant_of-self-2
+invariant_of-self-2 c =
     let tape = c.args.self.now in
     let start = 3 * tape.used in
     let one = front_kept tape.bytes.now start start 0xE2 (omega arith) tape.pressed in
-    (search rules, (front_kept (set tape.bytes.now start 0xE2) start (start + 1) 0xA0 (omega arith) one, tt))
+    record { fits = search rules; pressed = front_kept (set tape.bytes.now start 0xE2) start (start + 1) 0xA0 (omega arith) one }
 
-pub invariant-of-self-3 : goal.invariant-of-self-3
-invariant-of-self-3 c =
+pub invariant_of-self-3 : goal.invariant_of-self-3
+invariant_of-self-3 c =
     let tape = c.args.self.now in
-    (search rules, (pressed_more tape.bytes.now tape.used c.args.cell (omega arith) (lt-ltb _ 64 (omega arith)) tape.pressed, tt))
+    record { fits = search rules; pressed = pressed_more tape.bytes.now tape.used c.args.cell (omega arith) (lt-ltb _ 64 (omega arith)) tape.pressed }
 
 pub returns : goal.returns
 returns c =
