@@ -5,19 +5,6 @@ use Rattle.std.proofs.lemmas.Bool.{and_parts, both_ways, eq-eqb, eqb-true}
 use Rattle.std.proofs.lemmas.Bool.Decides.{nat_tests}
 use Rattle.signs.specs.Strings.{same, begins}
 
-pub begins_front : (s t : List ℕ) → begins s (s ++ t) ≡ true
-begins_front [] t = refl
-begins_front (x ∷ s) t = rw (eq-eqb x x refl) (begins_front s t)
-
-front_of : (p s : List ℕ) → begins p s ≡ true → s ≡ p ++ drop (length p) s
-front_of [] s h = refl
-front_of (x ∷ p) [] h = absurd (both_ways false refl h)
-front_of (x ∷ p) (y ∷ s) h =
-    let k = and_parts (eqb x y) (begins p s) h in
-    let e : x ≡ y = eqb-true x y k.0 in
-    let rest = front_of p s k.1 in
-    rw e (ap (λ t. y ∷ t) rest)
-
 -- what `starts_with` answers
 starts_front : (p s : List ℕ) → starts_with nat_eq s p ≡ begins p s
 starts_front [] s = refl
