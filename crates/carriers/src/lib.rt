@@ -1,4 +1,5 @@
 // The carriers of a tape: ASCII and Unicode.
 #![tactic(auto)]
+
 pub mod ascii;
 pub mod unicode;

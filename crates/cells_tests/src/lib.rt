@@ -1,5 +1,6 @@
 // Examples of cells, strips, embossers and carriers, each proved and run.
 #![tactic(auto)]
+
 #[cfg(test)]
 mod alike;
 #[cfg(test)]

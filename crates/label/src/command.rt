@@ -110,10 +110,11 @@ impl Options {
                 }
             }
         }
-        if flag.is_some() {
-            return Err(Failure::Usage("an option lacks its value"));
+        match flag {
+            None => Ok(options),
+            Some(Flag::From | Flag::To) => Err(Failure::Usage("an option lacks its carrier")),
+            Some(Flag::House) => Err(Failure::Usage("an option lacks its house codes")),
         }
-        Ok(options)
     }
 }
 

@@ -1,5 +1,6 @@
 // The program `label`: tapes of braille labels at the command line.
 #![tactic(auto)]
+
 mod command;
 mod demonstration;
 mod failure;
@@ -9,6 +10,7 @@ mod tape;
 use command::Command;
 use failure::Failure;
 use std::env;
+use std::process::ExitCode;
 
 const USAGE: &str = "usage:
   label                              press a first strip on both carriers and the display
@@ -36,13 +38,13 @@ fn run(rt: &HostRuntime) -> Result<(), Failure> {
 }
 
 // Every failure is told on standard error, and ends the program with status 1.
-fn main(rt: HostRuntime) -> Result<(), Failure> {
-    let result = run(&rt);
-    if let Err(failure) = &result {
-        let _ = eprintln!(rt; "label: {failure}");
-        if let Failure::Usage(_) = failure {
-            let _ = eprint!(rt; "{USAGE}");
-        }
+fn main(rt: HostRuntime) -> ExitCode {
+    let Err(failure) = run(&rt) else {
+        return ExitCode::SUCCESS;
+    };
+    let _ = eprintln!(rt; "label: {failure}");
+    if let Failure::Usage(_) = failure {
+        let _ = eprint!(rt; "{USAGE}");
     }
-    result
+    ExitCode::FAILURE
 }

@@ -1,5 +1,6 @@
 // Examples of signs, sign tables and house signs, each proved and run.
 #![tactic(auto)]
+
 #[cfg(test)]
 mod braille;
 #[cfg(test)]
