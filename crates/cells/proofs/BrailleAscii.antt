@@ -21,7 +21,7 @@ abbrev right : ℕ → Option ℕ × (Option ℕ × Option ℕ)
 right k = (Some (get_or inverse k 0), (Some (k + 32), Some k))
 
 table : ◌≡◌ {A = List (Option ℕ × (Option ℕ × Option ℕ)) × Bool} (map answers (below 64), all (within 0x20 0x5F) characters) (map right (below 64), true)
-unfolding byte_of cell_of inverse
+unfolding characters byte_of cell_of inverse
 table = refl
 
 at_each : (k : ℕ) → k < 64 → answers k ≡ right k
@@ -41,11 +41,11 @@ unfolding cell_of
 no_cell byte out = no_index byte 0x20 0x5F out 0 characters (ap (λ t. t.1) table)
 
 pub byte_at : (cell : ℕ) → cell < 64 → byte_of cell ≡ Some (character cell)
-unfolding byte_of
+unfolding characters byte_of
 byte_at cell h = slice_get-get_or characters cell 0 h
 
 pub no_byte : (cell : ℕ) → 64 ≤ cell → byte_of cell ≡ None
-unfolding byte_of
+unfolding characters byte_of
 no_byte cell h = slice_get_past characters cell h
 
 pub cell_from_byte : (cell byte : ℕ) → byte_of cell ≡ Some byte → cell_of byte ≡ Some cell

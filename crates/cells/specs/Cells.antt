@@ -10,7 +10,7 @@ abbrev pub is_cell : ℕ → Bool
 is_cell n = nat_lt n 64
 
 -- the characters of the 64 cells, in cell order
-abbrev pub characters : List ℕ
+unfoldable pub characters : List ℕ
 characters = codes " A1B'K2L@CIF/MSP\"E3H9O6R^DJG>NTQ,*5<-U8V.%[$+X!&;:4\\0Z7(_?W]#Y)="
 
 -- the character of a cell

@@ -4,7 +4,7 @@ use Rattle.std.specs.List.{AllByRecursion}
 use Rattle.std.proofs.ByRecursion.{All-weaker, All-append, All-map}
 use Rattle.std.proofs.lemmas.Bool.{and_parts, and_left, and_right, both_ways, eq-eqb, eqb-true, ne_eqb}
 use Rattle.std.proofs.lemmas.Bool.Decides.{nat_tests}
-use Rattle.cells.specs.Cells.{braille}
+use Rattle.cells.specs.Cells.{characters, braille}
 use Rattle.signs.specs.Known.{KnownBy, by_string, by_next, by_entry, always, known, ToldApart}
 use Rattle.signs.specs.Laws.{Lawful, LawfulString}
 use Rattle.signs.specs.Lists.{Pairwise, how_many}
@@ -19,6 +19,7 @@ abbrev pub Free : List KnownBy → Type 0
 Free ks = Pairwise (λ (k l : KnownBy). Apart k.1 l.1) ks
 
 always_free : Free always
+unfolding characters
 always_free =
     pairwise_true (λ (k l : KnownBy). apart k.1 l.1) (λ (k l : KnownBy). Apart k.1 l.1) (λ k l h. apart_true k.1 l.1 h) always refl
 
@@ -54,6 +55,7 @@ abbrev From : List ℕ → KnownBy → Type 0
 From s k = Apart k.1 s
 
 always_apart : (s : List ℕ) → LawfulString s → AllByRecursion (From s) always
+unfolding characters
 always_apart s h =
     All-append (From s) (map by_string (blank ∷ (plain ++ (indicators ++ accent_symbols)))) (map by_next follow_capital)
     (All-map (From s) by_string (blank ∷ (plain ++ (indicators ++ accent_symbols))) (

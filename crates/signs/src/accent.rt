@@ -38,6 +38,7 @@ impl Accent {
     }
 
     // The two cells that stand before the letter.
+    #[tactic(auto, unfolding(cells::specs::Cells::characters))]
     pub fn cells(self) -> [u8; 2]
         ensures { result ≡ accent_string self }
     {

@@ -40,6 +40,7 @@ impl Kind {
     }
 
     // The cell of a fixed sign.
+    #[tactic(auto, unfolding(cells::specs::Cells::characters))]
     pub fn cell(self) -> Option<u8>
         ensures { result ≡ fixed_cell self }
     {

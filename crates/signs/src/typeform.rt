@@ -39,6 +39,7 @@ impl Typeform {
     }
 
     // The first cell of its indicators.
+    #[tactic(auto, unfolding(cells::specs::Cells::characters))]
     pub fn mark(self) -> u8
         ensures { result ∷ [] ≡ mark (typeform_number self) }
     {

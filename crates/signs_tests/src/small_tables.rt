@@ -2,6 +2,7 @@
 ghost use Rattle.signs_tests.specs.Small.{no_signs, one_sign};
 ghost use Rattle.std.proofs.Common.{rules};
 ghost use Rattle.std.proofs.Math.Path.{refl};
+ghost use Rattle.cells.specs.Cells.{characters};
 ghost use Rattle.signs.specs.Signs.{kind};
 ghost use Rattle.signs.proofs.Laws.{lawful_true};
 
@@ -43,6 +44,7 @@ impl Listing for OneSign {
         1
     }
 
+    #[tactic(auto, unfolding(cells::specs::Cells::characters))]
     fn listed(&self, number: usize) -> Option<Listed<'_>> {
         match number {
             0 => Some(COMET),
@@ -54,7 +56,7 @@ impl Listing for OneSign {
 impl SignTable for OneSign {
     ghost pairs = { λ _. one_sign };
 
-    ghost lawful = { unfold kind in λ t. lawful_true one_sign refl };
+    ghost lawful = { unfold characters kind in λ t. lawful_true one_sign refl };
 
     fn string_of(&self, code: u32) -> Option<&[u8]> {
         listing::string_of(self, code)

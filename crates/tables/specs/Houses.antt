@@ -8,6 +8,7 @@ use Rattle.std.proofs.lemmas.List.{at_drop_more}
 use Rattle.std.proofs.lemmas.Option.{slice_get-get_or}
 use Rattle.std.proofs.lemmas.Bool.{both_ways, cond_both, cond-false, eq-eqb, eqb-false, leb-false, ltb-false, not-false}
 use Rattle.std.proofs.lemmas.Bool.Decides.{nat_tests}
+use Rattle.cells.specs.Cells.{characters}
 use Rattle.tables.specs.House.{house_strings, paired, house, clash, or_clash, lowest_clash, house_check, refused, first, house_refused, laid}
 use Rattle.signs.specs.Laws.{Lawful, LawfulString, lawful_string}
 use Rattle.signs.specs.Lists.{Pairwise, times}
@@ -137,6 +138,7 @@ paired_once codes (c ∷ cs) (s ∷ ss) m h =
     (absent c cs ss (omega arith), paired_once codes cs ss (λ x. omega (arith, times_more x c cs, m x)) h.1)
 
 house_lawful : (below : Table) (codes : List ℕ) → Lawful below → is_ok (lowest_clash below codes 0 (house codes)) ≡ true → Lawful (house codes ++ below)
+unfolding characters
 house_lawful below codes law h =
     let es = house codes in
     let ok : AllByRecursion (Clear below codes) es = All-weaker (λ e. clash below codes e ≡ None) (Clear below codes) (clear below codes) es (none_clash below codes 0 es h) in

@@ -7,6 +7,7 @@ use Rattle.std.specs.List.{slice_get}
 use Rattle.std.proofs.lemmas.List.{get_or-map}
 use Rattle.std.proofs.lemmas.Option.{slice_get-get_or}
 use Rattle.std.proofs.lemmas.Bool.{and_parts, both_ways, eqb-true}
+use Rattle.cells.specs.Cells.{characters}
 use Rattle.cells.specs.Lists.{all, index_of}
 use Rattle.signs.specs.Laws.{Lawful}
 use Rattle.signs.specs.Signs.{kind}
@@ -17,7 +18,7 @@ use Rattle.tables.specs.Ueb.{ueb, ueb_rows, ueb_codes, ueb_strings, before_blank
 -- The laws, by one computed test
 
 pub ueb_lawful : Lawful ueb
-unfolding kind ueb
+unfolding characters kind ueb
 ueb_lawful = lawful_true ueb refl
 
 -- Rows of three cells
@@ -44,7 +45,7 @@ unfoldable pub rows : List (List ℕ)
 rows = map filled ueb_strings
 
 pub ueb_row : (n : ℕ) → n < 50 → before_blank (slice_index_or rows n []) ≡ slice_index_or ueb_strings n []
-unfolding rows
+unfolding characters rows
 ueb_row n h = sym (get_or-map before_blank rows n [] [] h) ∙ ap (λ t. get_or t n []) same_strings
   where
     same_strings : map before_blank rows ≡ ueb_strings

@@ -1,5 +1,5 @@
 use Rattle.std.proofs.Common.{◌≡◌, ◌+◌, ◌-◌, ◌<◌, sym, ap, ◌∙◌, inl, inr, ⊎_elim, arith}
-use Rattle.cells.specs.Cells.{cell_of}
+use Rattle.cells.specs.Cells.{characters, cell_of}
 use Rattle.cells.proofs.BrailleAscii.{inverse, cell_at, no_cell, bijection}
 use Rattle.cells.proofs.ascii.cell_of.Goals as goal
 
@@ -8,7 +8,7 @@ returns-then-byte-lt32 c =
     record { value = sym (no_cell c.args.byte (⊎_elim (λ low. inl (omega arith)) (λ high. inr (omega (arith, high.1))) c.then-byte-lt32.either)); bijection = bijection }
 
 pub returns : goal.returns
-unfolding inverse cell_of
+unfolding characters inverse cell_of
 returns c =
     let k : c.args.byte - 32 < 64 = omega arith in
     let same : c.args.byte - 32 + 32 ≡ c.args.byte = omega arith in

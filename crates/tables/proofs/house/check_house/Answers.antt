@@ -1,11 +1,13 @@
 use Rattle.std.proofs.Common.{◌+◌, length, drop, sym, ap, ◌∙◌, arith}
 use Rattle.std.proofs.lemmas.List.{at_drop_all}
 use Rattle.std.proofs.lemmas.Bool.{cond-false, le-ltb}
+use Rattle.cells.specs.Cells.{characters}
 use Rattle.tables.specs.House.{house_strings, house, or_clash, lowest_clash, refused}
 use Rattle.tables.specs.Houses.{length_paired, lowest_more, check_number}
 use Rattle.tables.proofs.house.check_house.Goals as goal
 
 pub returns-in-Some : goal.returns-in-Some
+unfolding characters
 returns-in-Some g c =
     let below = g.T.SignTable.pairs c.args.below.now in
     let codes = c.args.codes.now in
@@ -15,6 +17,7 @@ returns-in-Some g c =
     record { answer = answer; number = ap refused answer ∙ check_number below codes }
 
 pub loop-position-preserved : goal.loop-position-preserved
+unfolding characters
 loop-position-preserved g c =
     let below = g.T.SignTable.pairs c.args.below.now in
     let codes = c.args.codes.now in

@@ -1,7 +1,8 @@
 use Rattle.std.proofs.Common.{◌∙◌}
+use Rattle.cells.specs.Cells.{characters}
 use Rattle.tables.specs.UebRows.{rows, ueb_row}
 use Rattle.tables.proofs.ueb.string_at.Goals as goal
 
 pub returns : goal.returns
-unfolding rows
+unfolding characters rows
 returns c = c.before_blank.ensures ∙ ueb_row c.args.number c.requires
