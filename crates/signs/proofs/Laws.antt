@@ -1,5 +1,5 @@
 -- A table that passes the test has the laws.
-use Rattle.std.proofs.Common.{◌≡◌, ℕ, ◌+◌, true, false, not, List, [], ◌∷◌, ◌++◌, length}
+use Rattle.std.proofs.Common.{◌≡◌, ℕ, true, false, not, List, [], ◌∷◌, ◌++◌, length}
 use Rattle.std.proofs.lemmas.Bool.{and_parts, not-true, leb-true, ltb-true, eqb-false}
 use Rattle.cells.specs.Cells.{braille}
 use Rattle.signs.specs.Laws.{Lawful, LawfulString, lawful, lawful_string}
