@@ -1,2 +1,1 @@
-pub mod AsciiBytes
-pub mod UnicodeBytes
+pub mod Tapes

@@ -20,6 +20,11 @@ abbrev pub ascii_bytes : Place → List ℕ
 ascii_bytes (Cell cell) = option_to_list (byte_of cell)
 ascii_bytes Spoilt = []
 
+-- the first place of a carrier, and the bytes behind it
+abbrev pub first_byte : List ℕ → Option (Place × List ℕ)
+first_byte [] = None
+first_byte (b ∷ rest) = Some (ascii_place b, rest)
+
 -- the Unicode carrier has three bytes a cell, E2, A0 and 80 plus the cell; any other three are spoilt
 abbrev pub unicode_place : ℕ → ℕ → ℕ → Place
 unicode_place a b c = cond (a == 0xE2 && (b == 0xA0 && (nat_le 0x80 c && nat_le c 0xBF))) (Cell (c - 0x80)) Spoilt
@@ -35,7 +40,6 @@ abbrev pub unicode_bytes : Place → List ℕ
 unicode_bytes (Cell cell) = 0xE2 ∷ 0xA0 ∷ (0x80 + cell) ∷ []
 unicode_bytes Spoilt = []
 
--- the first place of a carrier, and the bytes behind it
 abbrev pub first_group : List ℕ → Option (Place × List ℕ)
 first_group [] = None
 first_group (a ∷ []) = Some (Spoilt, [])

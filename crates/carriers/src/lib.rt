@@ -2,4 +2,7 @@
 #![tactic(auto)]
 
 pub mod ascii;
+pub mod code;
+pub mod strip;
+pub mod tape;
 pub mod unicode;

@@ -1,8 +1,9 @@
 -- Braille ASCII and its inverse.
-use Rattle.std.proofs.Common.{◌≡◌, ℕ, ◌+◌, ◌-◌, ◌<◌, ◌≤◌, Bool, true, false, ◌⊎◌, List, map, reverse, get_or, Some, None, Option, unwrap_or, refl, ap, inl, inr, arith}
+use Rattle.std.proofs.Common.{◌≡◌, ℕ, ◌+◌, ◌-◌, ◌<◌, ◌≤◌, Bool, true, ◌⊎◌, List, map, reverse, length, get_or, Some, None, Option, unwrap_or, sym, refl, ap, ◌∙◌, inl, inr, arith}
 use Rattle.std.proofs.lemmas.Option.{slice_get-get_or, slice_get_past}
-use Rattle.std.proofs.lemmas.Bool.{cases_lt, lt-ltb, le-ltb}
-use Rattle.cells.specs.Cells.{is_cell, characters, byte_of, cell_of, Bijection}
+use Rattle.std.proofs.lemmas.Bool.{cases_lt}
+use Rattle.std.specs.List.{slice_get}
+use Rattle.cells.specs.Cells.{characters, byte_of, cell_of, Bijection}
 use Rattle.cells.specs.Lists.{all, below, within}
 use Rattle.cells.proofs.Tables.{agree, no_index}
 
@@ -49,18 +50,14 @@ unfolding characters byte_of
 no_byte cell h = slice_get_past characters cell h
 
 pub cell_from_byte : (cell byte : ℕ) → byte_of cell ≡ Some byte → cell_of byte ≡ Some cell
-cell_from_byte cell byte e =
-    elim (cases_lt cell 64) [
-      | inl h ↦ let b = byte_at cell h in let same : byte ≡ character cell = cc in rw same (back_to_cell cell h)
-      | inr h ↦ let n = no_byte cell h in let z : ◌≡◌ {A = ℕ} 0 1 = cc in absurd (omega arith)
-    ]
+cell_from_byte cell byte e = elim (cases_lt cell 64) [ inl h ↦ grind (arith, byte_at cell h, back_to_cell cell h) | inr h ↦ grind (arith, no_byte cell h) ]
 
 pub byte_from_cell : (cell byte : ℕ) → cell_of byte ≡ Some cell → byte_of cell ≡ Some byte
 byte_from_cell cell byte e =
     elim (cases_lt byte 0x20) [
-      | inl h ↦ let n = no_cell byte (inl h) in let z : ◌≡◌ {A = ℕ} 0 1 = cc in absurd (omega arith)
+      | inl h ↦ let n = no_cell byte (inl h) in absurd cc
       | inr low ↦ elim (cases_lt 0x5F byte) [
-        | inl h ↦ let n = no_cell byte (inr h) in let z : ◌≡◌ {A = ℕ} 0 1 = cc in absurd (omega arith)
+        | inl h ↦ let n = no_cell byte (inr h) in absurd cc
         | inr high ↦
             let k : byte - 32 < 64 = omega arith in
             let s : byte - 32 + 32 ≡ byte = omega arith in
@@ -69,6 +66,21 @@ byte_from_cell cell byte e =
             let same : cell ≡ get_or inverse (byte - 32) 0 = cc in
             rw same b
       ]
+    ]
+
+sized : length inverse ≡ 64
+unfolding characters cell_of inverse
+sized = refl
+
+-- the inverse table answers each byte, past its end too
+pub cell_in_table : (byte : ℕ) → 32 ≤ byte → slice_get inverse (byte - 32) ≡ cell_of byte
+cell_in_table byte low =
+    elim (cases_lt (byte - 32) 64) [
+      | inl h ↦
+          let s : byte - 32 + 32 ≡ byte = omega arith in
+          let l : byte - 32 < length inverse = rw sized h in
+          slice_get-get_or inverse (byte - 32) 0 l ∙ sym (cell_at (byte - 32) h) ∙ ap cell_of s
+      | inr h ↦ let l : length inverse ≤ byte - 32 = rw sized h in slice_get_past inverse (byte - 32) l ∙ sym (no_cell byte (inr (omega arith)))
     ]
 
 pub bijection : Bijection
@@ -84,18 +96,3 @@ bijection =
       no_lower_byte = λ byte h. no_cell byte (inl h);
       no_higher_byte = λ byte h. no_cell byte (inr h);
     }
-
--- whether a number has a character says whether it is a cell
-pub cell_with_byte : (cell byte : ℕ) → Some byte ≡ byte_of cell → is_cell cell ≡ true
-cell_with_byte cell byte e =
-    elim (cases_lt cell 64) [
-      | inl h ↦ lt-ltb cell 64 h
-      | inr h ↦ let n = no_byte cell h in let z : ◌≡◌ {A = ℕ} 0 1 = cc in absurd (omega arith)
-    ]
-
-pub no_cell_without : (cell : ℕ) → None ≡ byte_of cell → is_cell cell ≡ false
-no_cell_without cell e =
-    elim (cases_lt cell 64) [
-      | inl h ↦ let b = byte_at cell h in let z : ◌≡◌ {A = ℕ} 0 1 = cc in absurd (omega arith)
-      | inr h ↦ le-ltb cell 64 h
-    ]

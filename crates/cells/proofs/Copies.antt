@@ -3,10 +3,10 @@ use Rattle.std.proofs.Common.{◌≡◌, ℕ, suc, ◌+◌, ◌*◌, ◌<◌, Bo
 use Rattle.std.specs.List.{slice_get}
 use Rattle.std.proofs.lemmas.List.{append_assoc, length-map, take_more, drop-drop}
 use Rattle.std.proofs.lemmas.Option.{slice_get-get_or}
-use Rattle.std.proofs.lemmas.Bool.{and_parts, cond-true}
+use Rattle.std.proofs.lemmas.Bool.{and_parts}
 use Rattle.cells.specs.Cells.{is_cell}
 use Rattle.cells.specs.Lists.{all}
-use Rattle.cells.specs.Places.{has_cell, cell_in, first_gap, cell_place, cell_places}
+use Rattle.cells.specs.Places.{cell_in, first_gap, cell_place, cell_places}
 use Rattle.cells.specs.Pressing.{takes_all, unless_gap, if_room, copied}
 use Rattle.cells.specs.Refusals.{Answer, granted, refused, told}
 use Rattle.cells.specs.declared.refusal.CopyRefusal.{CopyRefusal}
@@ -44,24 +44,14 @@ granted_room free cells = grind arith
 -- a list of numbers is pressed if all are cells and fit
 list_granted : (n free cells : ℕ) (ns : List ℕ) → is_granted (unless_gap (first_gap n (cell_places ns)) (if_room free cells)) ≡ (all is_cell ns && leb cells free)
 list_granted n free cells [] = granted_room free cells
-list_granted n free cells (x ∷ ns) = by (is_cell x) refl (list_granted (suc n) free cells ns)
-  where
-    by : (b : Bool) → is_cell x ≡ b →
-        is_granted (unless_gap (first_gap (suc n) (cell_places ns)) (if_room free cells)) ≡ (all is_cell ns && leb cells free) →
-        is_granted (unless_gap (cond (has_cell (cond b (Cell x) Spoilt)) (first_gap (suc n) (cell_places ns)) (Some n)) (if_room free cells)) ≡ ((b && all is_cell ns) && leb cells free)
-    by true t rest = rw t rest
-    by false t rest = refl
+list_granted n free cells (x ∷ ns) = grind (arith, list_granted (suc n) free cells ns)
 
 pub list_copied : (free : ℕ) (ns : List ℕ) → is_granted (copied free (cell_places ns)) ≡ takes_all free ns
 list_copied free ns = ap (λ k. is_granted (unless_gap (first_gap 0 (cell_places ns)) (if_room free k))) (length-map ns cell_place) ∙ list_granted 0 free (length ns) ns
 
 pub cells_as_places : (ns : List ℕ) → all is_cell ns ≡ true → cell_places ns ≡ map Cell ns
 cells_as_places [] t = refl
-cells_as_places (n ∷ ns) t =
-    let p = and_parts (is_cell n) (all is_cell ns) t in
-    let first : cell_place n ≡ Cell n = cond-true (is_cell n) (Cell n) Spoilt p.0 in
-    let rest = cells_as_places ns p.1 in
-    λ i. first i ∷ rest i
+cells_as_places (n ∷ ns) t = grind (arith, cells_as_places ns)
 
 -- the places that a granted list adds are its cells
 pub list_places : (r : Bool) (free : ℕ) (old : List Place) (ns : List ℕ) → r ≡ takes_all free ns → cond r (old ++ cell_places ns) old ≡ cond r (old ++ map Cell ns) old

@@ -1,8 +1,7 @@
 -- Places with no cell.
-use Rattle.std.proofs.Common.{◌≡◌, ℕ, zero, suc, ◌+◌, ◌<◌, Bool, true, false, cond, List, [], ◌∷◌, length, get_or, drop, is_some, Some, None, Option, sym, refl, ap, ◌∙◌, add-one, arith}
+use Rattle.std.proofs.Common.{◌≡◌, ℕ, zero, suc, ◌+◌, ◌<◌, ◌≤◌, true, List, [], ◌∷◌, length, is_some, Some, None, Option, sym, refl, ap, ◌∙◌, zero-le, arith}
 use Rattle.std.specs.List.{slice_get}
-use Rattle.std.proofs.lemmas.List.{at_drop_more}
-use Rattle.std.proofs.lemmas.Option.{slice_get-get_or}
+use Rattle.std.specs.Option.{MatchOption}
 use Rattle.cells.specs.Cells.{is_cell}
 use Rattle.cells.specs.Places.{has_cell, cell_in, first_gap}
 use Rattle.cells.specs.declared.strip.Place.{Place}
@@ -12,30 +11,39 @@ has_cell_in : (p : Place) → has_cell p ≡ is_some (cell_in (Some p))
 has_cell_in (Cell c) = grind arith
 has_cell_in Spoilt = refl
 
--- one place on
-pub gap_step : (ps : List Place) (i : ℕ) → i < length ps → first_gap i (drop i ps) ≡ cond (is_some (cell_in (slice_get ps i))) (first_gap (i + 1) (drop (i + 1) ps)) (Some i)
-gap_step ps i h =
-    let here : first_gap i (drop i ps) ≡ cond (has_cell (get_or ps i Spoilt)) (first_gap (suc i) (drop (i + 1) ps)) (Some i) = at_drop_more (first_gap i) ps i Spoilt h in
-    let same : has_cell (get_or ps i Spoilt) ≡ is_some (cell_in (slice_get ps i)) = has_cell_in (get_or ps i Spoilt) ∙ ap (λ o. is_some (cell_in o)) (sym (slice_get-get_or ps i Spoilt h)) in
-    let next : suc i ≡ i + 1 = sym (add-one i) in
-    here ∙ (λ j. cond (same j) (first_gap (next j) (drop (i + 1) ps)) (Some i))
+-- the first place that has no cell, found among the numbers of all places
+from_gap : (n : ℕ) (ps : List Place) (i : ℕ) → i < length ps → cell_in (slice_get ps i) ≡ None → ((k : ℕ) → k < i → is_some (cell_in (slice_get ps k)) ≡ true) → first_gap n ps ≡ Some (n + i)
+from_gap n [] i h none before = absurd (omega arith)
+from_gap n (p ∷ ps) zero h none before = grind (arith, has_cell_in p)
+from_gap n (p ∷ ps) (suc i) h none before =
+    let test : has_cell p ≡ true = has_cell_in p ∙ before 0 (omega arith) in
+    let rest = from_gap (suc n) ps i (omega arith) none (λ k l. before (suc k) (omega arith)) in
+    grind (arith, rest)
 
-parts_of_none : (b : Bool) (r : Option ℕ) (n : ℕ) → cond b r (Some n) ≡ None → (b ≡ true) × (r ≡ None)
-parts_of_none true r n e = (refl, e)
-parts_of_none false r n e = let z : ◌≡◌ {A = ℕ} 0 1 = cc in absurd (omega arith)
+all_filled : (n : ℕ) (ps : List Place) → ((k : ℕ) → k < length ps → is_some (cell_in (slice_get ps k)) ≡ true) → first_gap n ps ≡ None
+all_filled n [] each = refl
+all_filled n (p ∷ ps) each =
+    let test : has_cell p ≡ true = has_cell_in p ∙ each 0 (omega arith) in
+    rw test (all_filled (suc n) ps (λ k l. each (suc k) (omega arith)))
+
+pub gap_from :
+    (ps : List Place) (end : ℕ) (r : Option ℕ) → end ≡ length ps →
+    MatchOption r ((k : ℕ) → 0 ≤ k → k < end → is_some (cell_in (slice_get ps k)) ≡ true)
+    (λ i. (0 ≤ i) × (i < end) × (cell_in (slice_get ps i) ≡ None) × ((k : ℕ) → 0 ≤ k → k < i → is_some (cell_in (slice_get ps k)) ≡ true)) →
+    r ≡ first_gap 0 ps
+gap_from ps end None e h = sym (all_filled 0 ps (λ k l. h k zero-le (omega (arith, e))))
+gap_from ps end (Some i) e h =
+    let there : 0 + i ≡ i = omega arith in
+    sym (from_gap 0 ps i (omega (arith, e, h.1)) h.2 (λ k l. h.3 k zero-le l) ∙ ap Some there)
 
 -- where no place lacks a cell, each has one
 pub no_gap : (n : ℕ) (ps : List Place) (i : ℕ) → first_gap n ps ≡ None → i < length ps → is_some (cell_in (slice_get ps i)) ≡ true
 no_gap n [] i e h = absurd (omega arith)
-no_gap n (p ∷ ps) zero e h = sym (has_cell_in p) ∙ (parts_of_none (has_cell p) (first_gap (suc n) ps) n e).0
-no_gap n (p ∷ ps) (suc i) e h = no_gap (suc n) ps i (parts_of_none (has_cell p) (first_gap (suc n) ps) n e).1 (omega arith)
-
-cell_of_test : (b : Bool) (cell c : ℕ) → is_cell c ≡ b → Some cell ≡ cond b (Some c) None → (c ≡ cell) × (is_cell cell ≡ true)
-cell_of_test true cell c t e = let same : c ≡ cell = cc in (same, ap is_cell (sym same) ∙ t)
-cell_of_test false cell c t e = let z : ◌≡◌ {A = ℕ} 0 1 = cc in absurd (omega arith)
+no_gap n (p ∷ ps) zero e h = grind (arith, has_cell_in p)
+no_gap n (p ∷ ps) (suc i) e h = no_gap (suc n) ps i (grind arith) (omega arith)
 
 -- the cell found is what stands there
 pub cell_found : (o : Option Place) (cell : ℕ) → Some cell ≡ cell_in o → (o ≡ Some (Cell cell)) × (is_cell cell ≡ true)
-cell_found None cell e = let z : ◌≡◌ {A = ℕ} 0 1 = cc in absurd (omega arith)
-cell_found (Some Spoilt) cell e = let z : ◌≡◌ {A = ℕ} 0 1 = cc in absurd (omega arith)
-cell_found (Some (Cell c)) cell e = let p = cell_of_test (is_cell c) cell c refl e in (ap (λ n. Some (Cell n)) p.0, p.1)
+cell_found None cell e = absurd cc
+cell_found (Some Spoilt) cell e = absurd cc
+cell_found (Some (Cell c)) cell e = (grind arith, grind arith)

@@ -1,12 +1,10 @@
--- The elements of a list, each of which means something.
-use Rattle.std.proofs.Common.{◌≡◌, ℕ, ◌<◌, ◌≤◌, List, map, length, get_or, Some, None, sym, ap, ◌∙◌}
+-- What the library's `get` lends.
+use Rattle.std.proofs.Common.{◌≡◌, ℕ, List, Option, Bor, arith}
 use Rattle.std.specs.List.{slice_get}
-use Rattle.std.proofs.lemmas.List.{length-map, get_or-map}
-use Rattle.std.proofs.lemmas.Option.{slice_get-get_or, slice_get_past}
+use Rattle.std.specs.Option.{option_copied}
+use Rattle.std.specs.Slice.{IsItemAt}
+use Rattle.std.proofs.lemmas.Option.{gets}
 
-module _ {X Y : Type 0} (f : X → Y) (xs : List X) (i : ℕ) where
-  pub nth_map : (d : X) → i < length xs → Some (f (get_or xs i d)) ≡ slice_get (map f xs) i
-  nth_map d h = ap Some (sym (get_or-map f xs i d (f d) h)) ∙ sym (slice_get-get_or (map f xs) i (f d) (rw length-map h))
-
-  pub nth_map_past : length xs ≤ i → None ≡ slice_get (map f xs) i
-  nth_map_past h = sym (slice_get_past (map f xs) i (rw length-map h))
+-- an element, copied from behind its reference
+pub item_copied : {X : Type 0} (xs : List X) (i : ℕ) (r : Option (Bor X)) → IsItemAt xs i r → option_copied r ≡ slice_get xs i
+item_copied xs i r h = grind (arith, gets)

@@ -1,6 +1,5 @@
 pub mod Items
 pub mod Tables
-pub mod Memory
 pub mod BrailleAscii
 pub mod Gaps
 pub mod Copies

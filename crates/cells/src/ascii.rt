@@ -5,7 +5,7 @@ ghost use Rattle.cells.specs.Cells.{byte_of, cell_of, Bijection};
 // The characters of cells 0 to 63.
 const CHARACTERS: [u8; 64] = *b" A1B'K2L@CIF/MSP\"E3H9O6R^DJG>NTQ,*5<-U8V.%[$+X!&;:4\\0Z7(_?W]#Y)=";
 
-// The cells of the bytes 0x20 to 0x5F.
+// The cells of the bytes 0x20 to 0x5F: the inverse, so that a byte's cell is found with no search.
 const CELLS: [u8; 64] = [
     0, 46, 16, 60, 43, 41, 47, 4, 55, 62, 33, 44, 32, 36, 40, 12, 52, 2, 6, 18, 50, 34, 22, 54, 38,
     20, 49, 48, 35, 63, 28, 57, 8, 1, 3, 9, 25, 17, 11, 27, 19, 10, 26, 5, 7, 13, 29, 21, 15, 31,
@@ -16,11 +16,7 @@ const CELLS: [u8; 64] = [
 pub fn byte_of(cell: u8) -> Option<u8>
     ensures { result ≡ byte_of cell }
 {
-    if cell < 64 {
-        Some(CHARACTERS[cell as usize])
-    } else {
-        None
-    }
+    CHARACTERS.get(usize::from(cell)).copied()
 }
 
 // The cell of a Braille ASCII byte; none for any other byte. The two are a bijection.
@@ -28,8 +24,6 @@ pub fn cell_of(byte: u8) -> Option<u8>
     ensures value { result ≡ cell_of byte }
     ensures bijection { Bijection }
 {
-    if byte < 0x20 || byte > 0x5F {
-        return None;
-    }
-    Some(CELLS[(byte - 0x20) as usize])
+    let place = byte.checked_sub(0x20)?;
+    CELLS.get(usize::from(place)).copied()
 }

@@ -1,17 +1,7 @@
 // A strip over a list of numbers, as cells are pressed and shown.
-ghost use Rattle.std.specs.Prelude.{◌≡◌};
-ghost use Rattle.cells.specs.Places.{cell_place, cell_places};
+ghost use Rattle.cells.specs.Places.{cell_places};
 
 use crate::strip::{Place, Strip};
-
-fn place_of(number: u8) -> Place
-    ensures { result ≡ cell_place number }
-{
-    match number {
-        0..=63 => Place::Cell(number),
-        _ => Place::Spoilt,
-    }
-}
 
 // Lent cells, read; a number above 63 is spoilt.
 #[derive(Clone, Copy)]
@@ -25,10 +15,6 @@ impl<'a> Strip for CellStrip<'a> {
     }
 
     fn at(&self, place: usize) -> Option<Place> {
-        if place < self.0.len() {
-            Some(place_of(self.0[place]))
-        } else {
-            None
-        }
+        self.0.get(place).copied().map(Place::from)
     }
 }

@@ -8,7 +8,7 @@ ghost use Rattle.cells.specs.declared.strip.Place.TheVariants.{Cell};
 
 use crate::cell_strip::CellStrip;
 use crate::refusal::CopyRefusal;
-use crate::strip::{Embosser, Place, Strip};
+use crate::strip::{Embosser, Strip};
 
 // Presses all that stands on a strip, and answers the number of cells; or refuses, and presses nothing.
 pub fn copy_strip<S: Strip, E: Embosser>(from: &S, to: &mut E) -> Result<usize, CopyRefusal>
@@ -24,6 +24,7 @@ pub fn copy_strip<S: Strip, E: Embosser>(from: &S, to: &mut E) -> Result<usize, 
     if cells > to.free() {
         return Err(CopyRefusal::NoRoomFor(cells));
     }
+    // A strip answers by the number of a place alone.
     for place in 0..cells {
         let Some(cell) = cell_at(from, place) else {
             unreachable!()
@@ -37,25 +38,17 @@ pub fn copy_strip<S: Strip, E: Embosser>(from: &S, to: &mut E) -> Result<usize, 
 fn cell_at<S: Strip>(strip: &S, place: usize) -> Option<u8>
     ensures { result ≡ cell_in (slice_get (S.Strip.places strip.now) place) }
 {
-    match strip.at(place) {
-        Some(Place::Cell(cell)) if cell < 64 => Some(cell),
-        _ => None,
-    }
+    strip.at(place)?.cell()
 }
 
 // The first place with no cell.
 fn first_gap<S: Strip>(strip: &S) -> Option<usize>
     ensures { result ≡ first_gap 0 (S.Strip.places strip.now) }
 {
-    for place in 0..strip.len() {
-        if cell_at(strip, place).is_none() {
-            return Some(place);
-        }
-    }
-    None
+    (0..strip.len()).find(|place| cell_at(strip, *place).is_none())
 }
 
-// Presses these cells one after the other; or says no, and presses nothing.
+// Presses these cells one after the other; or says no, and presses nothing. Whoever wants to know why asks `copy_strip`.
 pub fn press_all<E: Embosser>(cells: &[u8], to: &mut E) -> bool
     ensures answer { result ≡ takes_all (E.Embosser.room to.old) cells.now }
     ensures places { E.Strip.places to.new ≡ (if result then E.Strip.places to.old ++ map Cell cells.now else E.Strip.places to.old) }

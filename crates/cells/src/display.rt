@@ -1,42 +1,51 @@
 // A refreshable braille display of 40 cells.
-ghost use Rattle.std.specs.Prelude.{◌≡◌, ◌-◌, ◌≤◌, [], take};
+ghost use Rattle.std.specs.Prelude.{◌≡◌, ◌-◌, ◌≤◌, [], length};
 ghost use Rattle.cells.specs.Places.{cell_places};
 
 use crate::cell_strip::CellStrip;
 use crate::strip::{Embosser, Place, Strip};
+use arrayvec::ArrayVec;
+use std::marker::Model;
 
 #[derive(Drop)]
 pub struct BrailleDisplay {
-    cells: [u8; 40],
-    used: usize,
-    ghost fits: { used ≤ 40 },
+    cells: ArrayVec<u8, 40>,
+}
+
+// Contracts see the cells pressed so far.
+impl Model for BrailleDisplay {
+    ghost use Rattle.std.specs.Prelude.{ℕ, List};
+
+    ghost Value = { List ℕ };
+
+    ghost view = { λ d. d.cells.items };
 }
 
 impl BrailleDisplay {
     // A display with no pins up.
     pub fn new() -> Self
-        ensures places { cell_places (take result.used result.cells) ≡ [] }
-        ensures room { 40 - result.used ≡ 40 }
+        ensures { result ≡ [] }
     {
         BrailleDisplay {
-            cells: [0; 40],
-            used: 0,
+            cells: ArrayVec::new(),
         }
     }
 
-    // The cells pressed so far.
     fn shown(&self) -> CellStrip<'_>
-        ensures { result.0.now ≡ take self.now.used self.now.cells }
+        ensures { result.0.now ≡ self.now }
     {
-        CellStrip(&self.cells[0..self.used])
+        CellStrip(self.cells.as_slice())
     }
 }
 
 impl Strip for BrailleDisplay {
-    ghost places = { λ s. cell_places (take s.used s.cells) };
+    ghost places = { cell_places };
 
-    fn len(&self) -> usize {
-        self.shown().len()
+    fn len(&self) -> usize
+        ensures count { result ≡ length (cell_places self.now) }
+        ensures fits { length self.now ≤ 40 }
+    {
+        self.cells.len()
     }
 
     fn at(&self, place: usize) -> Option<Place> {
@@ -45,18 +54,13 @@ impl Strip for BrailleDisplay {
 }
 
 impl Embosser for BrailleDisplay {
-    ghost room = { λ s. 40 - s.used };
+    ghost room = { λ cells. 40 - length cells };
 
     fn free(&self) -> usize {
-        40 - self.used
+        self.cells.remaining_capacity()
     }
 
     fn press(&mut self, cell: u8) -> bool {
-        if cell > 63 || self.used == 40 {
-            return false;
-        }
-        self.cells[self.used] = cell;
-        self.used += 1;
-        true
+        cell < 64 && self.cells.try_push(cell).is_ok()
     }
 }

@@ -1,6 +1,7 @@
 // Braille ASCII and the ASCII carrier.
 use crate::alike::alike;
-use carriers::ascii::{AsciiStrip, AsciiTape};
+use crate::carrier::has_every_cell;
+use carriers::ascii::{Ascii, AsciiStrip, AsciiTape};
 use cells::ascii;
 use cells::strip::{Embosser, Place, Strip};
 
@@ -9,40 +10,25 @@ const TABLE: [u8; 64] = *b" A1B'K2L@CIF/MSP\"E3H9O6R^DJG>NTQ,*5<-U8V.%[$+X!&;:4\
 
 #[test]
 fn all_cells_there_and_back(rt: HostRuntime) {
-    let mut memory = [b'~'; 64];
-    let mut tape = AsciiTape::new(&mut memory);
-    let strip = AsciiStrip(&TABLE);
-    for cell in 0..64u8 {
-        let place = Some(Place::Cell(cell));
-        assert!(rt;
-            tape.press(cell) && tape.at(cell as usize) == place && strip.at(cell as usize) == place
-        );
-    }
-    assert!(rt; tape.len() == 64 && tape.free() == 0 && strip.len() == 64 && strip.at(64) == None);
-    let (pressed, unused) = tape.finish();
-    assert!(rt; alike(pressed, &TABLE) && unused.is_empty());
+    assert!(rt; has_every_cell::<Ascii, 1>(&TABLE, &mut [b'~'; 64]));
 }
 
 // The place that a byte should be, by where it stands in the table.
 fn expected(byte: u8) -> Place {
-    for cell in 0..64u8 {
-        if TABLE[cell as usize] == byte {
-            return Place::Cell(cell);
-        }
-    }
-    Place::Spoilt
+    (0u8..)
+        .zip(TABLE)
+        .find(|(_, character)| *character == byte)
+        .map_or(Place::Spoilt, |(cell, _)| Place::Cell(cell))
 }
 
 #[test]
 fn all_bytes_as_places(rt: HostRuntime) {
-    let mut spoilt = 0u16;
     for byte in 0..=255u8 {
-        let place = expected(byte);
-        assert!(rt; AsciiStrip(&[byte]).at(0) == Some(place));
-        if place == Place::Spoilt {
-            spoilt = spoilt.saturating_add(1);
-        }
+        assert!(rt; AsciiStrip::new(&[byte]).at(0) == Some(expected(byte)));
     }
+    let spoilt = (0..=255u8)
+        .filter(|byte| expected(*byte) == Place::Spoilt)
+        .count();
     assert!(rt; spoilt == 192 && expected(b'a') == Place::Spoilt);
 }
 
@@ -88,8 +74,8 @@ fn one_tape_after_the_other(rt: HostRuntime) {
 #[test]
 fn bytes_written_after_the_strip(rt: HostRuntime) {
     let mut bytes = *b"AB";
-    let strip = AsciiStrip(&bytes);
+    let strip = AsciiStrip::new(&bytes);
     assert!(rt; strip.at(0) == Some(Place::Cell(1)));
     bytes[0] = b'B';
-    assert!(rt; AsciiStrip(&bytes).at(0) == Some(Place::Cell(3)));
+    assert!(rt; AsciiStrip::new(&bytes).at(0) == Some(Place::Cell(3)));
 }

@@ -6,6 +6,8 @@ mod alike;
 #[cfg(test)]
 mod ascii;
 #[cfg(test)]
+mod carrier;
+#[cfg(test)]
 mod commands;
 #[cfg(test)]
 mod display;

@@ -20,17 +20,17 @@ fn refusals_of_a_copy(rt: HostRuntime) {
     let mut memory = [b'~'; 4];
     let mut tape = AsciiTape::new(&mut memory);
     assert_eq!(rt;
-        copy_strip(&AsciiStrip(b"ABaCb"), &mut tape),
+        copy_strip(&AsciiStrip::new(b"ABaCb"), &mut tape),
         Err(CopyRefusal::SpoiltAt(2))
     );
     assert_eq!(rt;
-        copy_strip(&AsciiStrip(b"ABCDE"), &mut tape),
+        copy_strip(&AsciiStrip::new(b"ABCDE"), &mut tape),
         Err(CopyRefusal::NoRoomFor(5))
     );
     assert!(rt; tape.len() == 0);
-    assert_eq!(rt; copy_strip(&AsciiStrip(b"ABC"), &mut tape), Ok(3));
+    assert_eq!(rt; copy_strip(&AsciiStrip::new(b"ABC"), &mut tape), Ok(3));
     assert_eq!(rt;
-        copy_strip(&AsciiStrip(b"ABC"), &mut tape),
+        copy_strip(&AsciiStrip::new(b"ABC"), &mut tape),
         Err(CopyRefusal::NoRoomFor(3))
     );
     let (pressed, unused) = tape.finish();

@@ -16,10 +16,7 @@ impl Strip for Single {
     ghost places = { λ s. places_of s.cell };
 
     fn len(&self) -> usize {
-        match self.cell {
-            Some(_) => 1,
-            None => 0,
-        }
+        usize::from(self.cell.is_some())
     }
 
     fn at(&self, place: usize) -> Option<Place> {
@@ -34,10 +31,7 @@ impl Embosser for Single {
     ghost room = { λ s. room_of s.cell };
 
     fn free(&self) -> usize {
-        match self.cell {
-            Some(_) => 0,
-            None => 1,
-        }
+        usize::from(self.cell.is_none())
     }
 
     fn press(&mut self, cell: u8) -> bool {

@@ -1,28 +1,18 @@
 // The Unicode carrier.
 use crate::alike::alike;
-use carriers::unicode::{UnicodeStrip, UnicodeTape};
+use crate::carrier::has_every_cell;
+use carriers::unicode::{Unicode, UnicodeStrip, UnicodeTape};
 use cells::strip::{Embosser, Place, Strip};
 
 const ALL: &str = "⠀⠁⠂⠃⠄⠅⠆⠇⠈⠉⠊⠋⠌⠍⠎⠏⠐⠑⠒⠓⠔⠕⠖⠗⠘⠙⠚⠛⠜⠝⠞⠟⠠⠡⠢⠣⠤⠥⠦⠧⠨⠩⠪⠫⠬⠭⠮⠯⠰⠱⠲⠳⠴⠵⠶⠷⠸⠹⠺⠻⠼⠽⠾⠿";
 
 #[test]
 fn all_cells_there_and_back(rt: HostRuntime) {
-    let mut memory = [0; 192];
-    let mut tape = UnicodeTape::new(&mut memory);
-    let strip = UnicodeStrip(ALL.as_bytes());
-    for cell in 0..64u8 {
-        let place = Some(Place::Cell(cell));
-        assert!(rt;
-            tape.press(cell) && tape.at(cell as usize) == place && strip.at(cell as usize) == place
-        );
-    }
-    assert!(rt; tape.len() == 64 && tape.free() == 0 && strip.len() == 64 && strip.at(64) == None);
-    let (pressed, unused) = tape.finish();
-    assert!(rt; alike(pressed, ALL.as_bytes()) && unused.is_empty());
+    assert!(rt; has_every_cell::<Unicode, 3>(ALL.as_bytes(), &mut [0; 192]));
 }
 
 fn spoilt(group: [u8; 3]) -> bool {
-    UnicodeStrip(&group).at(0) == Some(Place::Spoilt)
+    UnicodeStrip::new(&group).at(0) == Some(Place::Spoilt)
 }
 
 #[test]
@@ -37,21 +27,21 @@ fn every_wrong_byte_is_spoilt(rt: HostRuntime) {
 // A group that is cut off is one spoilt place, and the group before it is as it was.
 #[test]
 fn cut_off_groups_are_spoilt(rt: HostRuntime) {
-    let two = UnicodeStrip(&[0xE2, 0xA0, 0x81, 0xE2, 0xA0]);
+    let two = UnicodeStrip::new(&[0xE2, 0xA0, 0x81, 0xE2, 0xA0]);
     assert!(rt;
         two.len() == 2
             && two.at(0) == Some(Place::Cell(1))
             && two.at(1) == Some(Place::Spoilt)
             && two.at(2) == None
     );
-    let one = UnicodeStrip(&[0xE2, 0xA0, 0x81, 0xE2]);
+    let one = UnicodeStrip::new(&[0xE2, 0xA0, 0x81, 0xE2]);
     assert!(rt;
         one.len() == 2
             && one.at(0) == Some(Place::Cell(1))
             && one.at(1) == Some(Place::Spoilt)
             && one.at(2) == None
     );
-    let none = UnicodeStrip(&[]);
+    let none = UnicodeStrip::new(&[]);
     assert!(rt; none.len() == 0 && none.at(0) == None && none.at(usize::MAX) == None);
 }
 

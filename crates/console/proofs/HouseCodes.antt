@@ -1,135 +1,137 @@
--- House codes, word by word.
-use Rattle.std.proofs.Common.{◌≡◌, ℕ, ◌+◌, ◌-◌, ◌*◌, ◌<◌, ◌≤◌, Bool, true, false, cond, List, [], ◌∷◌, ◌++◌, map, length, get_or, take, drop, Some, None, Option, sym, refl, ap, ◌∙◌, arith}
-use Rattle.std.specs.Option.{option_map}
-use Rattle.std.specs.Bool.{then_some}
-use Rattle.std.specs.Char.{digit_value}
-use Rattle.std.proofs.lemmas.List.{append_assoc, map-append, at_drop_more, drop_more, drop_all, take_more, get_or-drop, length-drop}
-use Rattle.std.proofs.lemmas.Bool.{eq-eqb, ne_eqb}
-use Rattle.console.specs.HouseWords.{fits_digit, with_digit, hexadecimal, code_named, word, words_from, add_value, every, Added}
+-- House codes: the parts of a text between blanks, and the code that a word names.
+use Rattle.std.proofs.Common.{◌≡◌, ◌≢◌, Result, ℕ, ◌+◌, ◌*◌, ◌<◌, ◌≤◌, ◌^◌, Bool, true, false, cond, List, [], ◌∷◌, ◌++◌, map, length, get_or, take, drop, Some, None, Option, Bor, sym, refl, ◌⊎◌, inl, inr, ap, ◌∙◌, arith, lit<, append_assoc, length-drop}
+use Rattle.std.specs.Char.{digit_value, IsScalar}
+use Rattle.std.specs.Option.{option_map, SomeIff}
+use Rattle.std.specs.List.{slice_split, All, filter}
+use Rattle.std.specs.Str.{chars, IsUtf8, NonePass, NoCharPasses, IsAscii}
+use Rattle.std.specs.Str.Iter.{split_steps, split_pattern, split_has_more, split_text}
+use Rattle.std.specs.Str.Pattern.{FindsChar, IsSplitAtFirstMatch, StripsPrefix, FindsTextPrefix}
+use Rattle.std.specs.declared.str.Split.{Split}
+use Rattle.std.specs.Str.Parse.{AllDigits, IsNumeral, digits_value, digits_value_after, ParsesUnsigned}
+use Rattle.std.specs.Result.{result_ok}
+use Rattle.std.proofs.lemmas.Bool.{and_parts}
+use Rattle.std.proofs.lemmas.Bool.Decides.{nat_tests}
+use Rattle.std.proofs.lemmas.Str.Parse.{without_leading_plus_none}
+use Rattle.std.proofs.lemmas.List.{take-append-drop, append-nil, nil_from_length}
+use Rattle.std.proofs.lemmas.List.Elements.{All-cons}
+use Rattle.std.proofs.lemmas.List.Splits.{slice_split_none, slice_split_at}
+use Rattle.std.proofs.lemmas.Str.{chars-nil, encodes-chars, scalars-chars, encodes-IsAscii, chars_from_encodes, chars-append, chars-IsAscii, IsUtf8-from_ascii, IsUtf8-take, IsUtf8-drop, IsCharBoundary-before_ascii}
+use Rattle.std.proofs.lemmas.Str.Ascii.{IsAscii-nil, IsAscii-cons}
+use Rattle.std.proofs.lemmas.Str.Pattern.{drop_at_char}
+use lib.Utf8.{encode, encodes, scalars, scalar}
+use Rattle.console.specs.HouseWords.{hexadecimal, code_named, is_blank, is_word, every}
 
--- one digit on
+-- A text, part by part
 
-digit_more : (value d : ℕ) (ds : List ℕ) (i : ℕ) → i < length ds → d ≡ get_or ds i d →
-    hexadecimal value (drop i ds) ≡ cond (fits_digit value d) (hexadecimal (value * 16 + digit_value d) (drop (i + 1) ds)) None
-digit_more value d ds i h e =
-    let here : hexadecimal value (drop i ds) ≡ cond (fits_digit value (get_or ds i d)) (hexadecimal (value * 16 + digit_value (get_or ds i d)) (drop (i + 1) ds)) None =
-    at_drop_more (hexadecimal value) ds i d h in
-    here ∙ ap (λ x. cond (fits_digit value x) (hexadecimal (value * 16 + digit_value x) (drop (i + 1) ds)) None) (sym e)
+past_ascii : (c : ℕ) (rest : List ℕ) → c < 128 → chars (c ∷ rest) ≡ c ∷ chars rest
+past_ascii c rest h =
+    let one : IsAscii (c ∷ []) = IsAscii-cons c [] h IsAscii-nil in
+    chars-append (c ∷ []) rest (IsUtf8-from_ascii (c ∷ []) one) ∙ ap (λ t. t ++ chars rest) (chars-IsAscii (c ∷ []) one)
 
-pub digit_on : (value next d : ℕ) (ds : List ℕ) (i : ℕ) → i < length ds → d ≡ get_or ds i d → Some next ≡ with_digit value d →
-    hexadecimal value (drop i ds) ≡ hexadecimal next (drop (i + 1) ds)
-digit_on value next d ds i h e w = digit_more value d ds i h e ∙ go (fits_digit value d) w
+no_blank : (cs : List ℕ) → NonePass is_blank cs → All (λ c. is_blank c ≡ false) cs
+no_blank [] h = λ k d l. absurd (omega arith)
+no_blank (c ∷ cs) h = All-cons (λ c. is_blank c ≡ false) c cs h.0 (no_blank cs h.1)
+
+chars_no_blank : (bs : List ℕ) → IsUtf8 bs → NoCharPasses is_blank bs → All (λ c. is_blank c ≡ false) (chars bs)
+chars_no_blank bs u (cs, e, none) = rw (← chars_from_encodes cs bs u e) (no_blank cs none)
+
+-- s cuts a text at its blanks
+abbrev pub CutsAtBlanks : Split ℕ → Type 0
+CutsAtBlanks s = (split_pattern s ≡ 0x20) × (split_has_more s ≡ true → IsUtf8 (split_text s))
+
+-- the parts that are to come
+abbrev pub parts_left : Split ℕ → List (List ℕ)
+parts_left s = cond (split_has_more s) (slice_split is_blank (chars (split_text s))) []
+
+first_part : (text part rest : List ℕ) (more : Bool) → IsUtf8 text → IsSplitAtFirstMatch (FindsChar 0x20) text part more rest →
+    (slice_split is_blank (chars text) ≡ chars part ∷ cond more (slice_split is_blank (chars rest)) []) × IsUtf8 part × (more ≡ true → IsUtf8 rest)
+first_part text part rest more u (_, (None, none, e)) =
+    (rw (e.0, e.1) (slice_split_none is_blank (chars text) (chars_no_blank text u none)), rw (e.0) u, λ t. cc (e.1))
+first_part text part rest more u (_, (Some (i, j), f, e)) =
+    let cut : drop i text ≡ 0x20 ∷ drop j text = drop_at_char 0x20 text i j f.1 (lit< tt) in
+    let l : i < length text = omega (arith, simp length-drop at (ap length cut)) in
+    let before : IsUtf8 (take i text) = IsUtf8-take text i u (IsCharBoundary-before_ascii text i l (omega (arith, f.1.byte (lit< tt)))) in
+    let spelt : chars text ≡ chars (take i text) ++ 0x20 ∷ chars (drop j text) =
+    ap chars (sym (take-append-drop i text) ∙ ap (λ t. take i text ++ t) cut) ∙ chars-append (take i text) (0x20 ∷ drop j text) before
+    ∙ ap (λ t. chars (take i text) ++ t) (past_ascii 0x20 (drop j text) (lit< tt)) in
+    let at : (part ≡ take i text) × (more ≡ true) × (rest ≡ drop j text) = e (omega (arith, f.1.ends)) in (
+      rw (at.0, at.1, at.2, spelt) (slice_split_at is_blank (chars (take i text)) 0x20 (chars (drop j text)) (chars_no_blank (take i text) before f.0) refl),
+      rw (at.0) before,
+      λ t. rw (at.2, f.1.ends) (IsUtf8-drop text (i + 1) u f.1.after),
+    )
+
+pub next_part : (s t : Split ℕ) (part : Bor (List ℕ)) → CutsAtBlanks s → split_steps FindsChar (λ p q. q ≡ p) s (Some part) t →
+    CutsAtBlanks t × (parts_left s ≡ chars part.now ∷ parts_left t) × IsUtf8 part.now
+next_part s t part (blank, u) (more, (kept, cut), _) =
+    let first : (slice_split is_blank (chars (split_text s)) ≡ chars part.now ∷ parts_left t) × IsUtf8 part.now × (split_has_more t ≡ true → IsUtf8 (split_text t)) =
+    first_part (split_text s) part.now (split_text t) (split_has_more t) (u (sym more)) (rw blank at cut) in
+    ((kept ∙ blank, first.2), rw (← more) (first.0), first.1)
+
+-- the codes so far, and those that the parts to come name
+abbrev pub codes_on : List ℕ → List (List ℕ) → Option (List ℕ)
+codes_on before parts = option_map (λ new. before ++ new) (every (map code_named (filter is_word parts)))
+
+pub empty_part : (before part : List ℕ) (parts : List (List ℕ)) → length part ≡ 0 → codes_on before (chars part ∷ parts) ≡ codes_on before parts
+empty_part before part parts l = rw (nil_from_length part l, chars-nil) refl
+
+pub no_code : (before part : List ℕ) (parts : List (List ℕ)) → IsUtf8 part → 0 < length part → None ≡ code_named (chars part) → codes_on before (chars part ∷ parts) ≡ None
+no_code before part parts u l n = grind (arith, encodes-chars part u)
+
+pub one_code : (before word : List ℕ) (parts : List (List ℕ)) (code : ℕ) → Some code ≡ code_named word → codes_on before (word ∷ parts) ≡ codes_on (before ++ code ∷ []) parts
+one_code before word parts code n = grind (arith, append_assoc {A = ℕ})
+
+-- The code that a word names
+
+pub one_character : (word : List ℕ) (c : ℕ) → IsUtf8 word → word ≡ encode c → chars word ≡ c ∷ []
+one_character word c u e = sym (chars_from_encodes (c ∷ []) word u (append-nil (encode c) ∙ sym e))
+
+other_start : (a b : ℕ) (rest : List ℕ) → (a ≡ 0x55 → b ≡ 0x2B → ⊥) → code_named (a ∷ b ∷ rest) ≡ None
+other_start a b rest other = grind (arith, nat_tests)
+
+pub names_none : (word : List ℕ) → IsUtf8 word → ((c : ℕ) → IsScalar c → word ≢ encode c) → ((rest : List ℕ) → word ≢ 0x55 ∷ 0x2B ∷ rest) → code_named (chars word) ≡ None
+unfolding encode
+names_none word u one named = go (chars word) (encodes-chars word u) (scalars-chars word u)
   where
-    go : (b : Bool) → Some next ≡ cond b (Some (value * 16 + digit_value d)) None →
-        cond b (hexadecimal (value * 16 + digit_value d) (drop (i + 1) ds)) None ≡ hexadecimal next (drop (i + 1) ds)
-    go true q = let same : value * 16 + digit_value d ≡ next = cc in ap (λ v. hexadecimal v (drop (i + 1) ds)) same
-    go false q = let z : ◌≡◌ {A = ℕ} 0 1 = cc in absurd (omega arith)
+    go : (cs : List ℕ) → encodes cs ≡ word → scalars cs ≡ true → code_named cs ≡ None
+    go [] e s = refl
+    go (c ∷ []) e s = absurd (one c (and_parts (scalar c) true s).0 (sym e ∙ append-nil (encode c)))
+    go (a ∷ b ∷ rest) e s = other_start a b rest (λ p q. named (encodes rest) (rw (p, q) at (sym e)))
 
-pub no_digit : (value d : ℕ) (ds : List ℕ) (i : ℕ) → i < length ds → d ≡ get_or ds i d → None ≡ with_digit value d → hexadecimal value (drop i ds) ≡ None
-no_digit value d ds i h e w = digit_more value d ds i h e ∙ go (fits_digit value d) w
-  where
-    go : (b : Bool) → None ≡ cond b (Some (value * 16 + digit_value d)) None → cond b (hexadecimal (value * 16 + digit_value d) (drop (i + 1) ds)) None ≡ None
-    go true q = let z : ◌≡◌ {A = ℕ} 0 1 = cc in absurd (omega arith)
-    go false q = refl
+-- the number that the digits after U+ write
+abbrev pub number : List ℕ → Option ℕ
+number [] = None
+number (d ∷ ds) = hexadecimal 0 (d ∷ ds)
 
--- a word of U+ and digits
-pub named_by_digits : (w : List ℕ) → 3 ≤ length w → get_or w 0 0 ≡ 0x55 → get_or w 1 0 ≡ 0x2B → code_named w ≡ hexadecimal 0 (drop 2 w)
-named_by_digits [] l u p = absurd (omega arith)
-named_by_digits (a ∷ []) l u p = absurd (omega arith)
-named_by_digits (a ∷ b ∷ []) l u p = absurd (omega arith)
-named_by_digits (a ∷ b ∷ d ∷ ds) l u p = rw (eq-eqb a 0x55 u, eq-eqb b 0x2B p)
+pub after_prefix : (word digits : List ℕ) → IsUtf8 word → StripsPrefix (FindsTextPrefix (0x55 ∷ 0x2B ∷ [])) word digits →
+    (code_named (chars word) ≡ number (chars digits)) × IsUtf8 digits
+after_prefix word digits u (n, (two, prefix, boundary), rest, _) =
+    let whole : word ≡ 0x55 ∷ 0x2B ∷ digits = prefix ∙ ap (λ t. 0x55 ∷ 0x2B ∷ t) (sym rest) in
+    (rw (whole, past_ascii 0x55 (0x2B ∷ digits) (lit< tt), past_ascii 0x2B digits (lit< tt)) (grind arith), rw (rest, two) (IsUtf8-drop word 2 u boundary))
 
--- The walk over the words
+pub plus_first : (digits : List ℕ) → get_or digits 0 0 ≡ 0x2B → number (chars digits) ≡ None
+plus_first [] p = absurd (omega arith)
+plus_first (d ∷ ds) p = rw (p, past_ascii 0x2B ds (lit< tt)) refl
 
-abbrev both : Option (List ℕ) → Option (List ℕ) → Option (List ℕ)
-both None r = None
-both (Some a) r = option_map (λ n. a ++ n) r
+at_least : (value : ℕ) (ds : List ℕ) → value ≤ digits_value_after 16 value ds
+at_least value [] = omega arith
+at_least value (d ∷ ds) = omega (arith, at_least (value * 16 + digit_value d) ds)
 
-every_append : (os ps : List (Option ℕ)) → every (os ++ ps) ≡ both (every os) (every ps)
-every_append [] ps = go (every ps)
-  where
-    go : (r : Option (List ℕ)) → r ≡ option_map (λ n. [] ++ n) r
-    go None = refl
-    go (Some n) = refl
-every_append (o ∷ os) ps = ap (add_value o) (every_append os ps) ∙ go o (every os) (every ps)
-  where
-    go : (x : Option ℕ) (a r : Option (List ℕ)) → add_value x (both a r) ≡ both (add_value x a) r
-    go None a r = refl
-    go (Some n) None r = refl
-    go (Some n) (Some a) None = refl
-    go (Some n) (Some a) (Some b) = refl
+hexadecimal-is : (value : ℕ) (ds : List ℕ) → value < 2 ^ 32 → SomeIff (hexadecimal value ds) (AllDigits 16 ds × (digits_value_after 16 value ds < 2 ^ 32)) (digits_value_after 16 value ds)
+hexadecimal-is value [] l = ((tt, l), refl)
+hexadecimal-is value (d ∷ ds) l = grind (arith, nat_tests, at_least (value * 16 + digit_value d) ds, hexadecimal-is (value * 16 + digit_value d) ds)
 
--- the codes so far, and those of the words that a run begins
-abbrev pub codes_on : List ℕ → List ℕ → List ℕ → Option (List ℕ)
-codes_on before run rest = option_map (λ new. before ++ new) (every (map code_named (words_from run rest)))
+number-is : (ds : List ℕ) → SomeIff (number ds) (IsNumeral 16 ds × (digits_value 16 ds < 2 ^ 32)) (digits_value 16 ds)
+number-is [] = λ p. absurd (omega arith)
+number-is (d ∷ ds) = grind (arith, hexadecimal-is 0 (d ∷ ds))
 
-pub on_none : (run rest : List ℕ) → codes_on [] run rest ≡ every (map code_named (words_from run rest))
-on_none run rest = go (every (map code_named (words_from run rest)))
-  where
-    go : (r : Option (List ℕ)) → option_map (λ n. [] ++ n) r ≡ r
-    go None = refl
-    go (Some n) = refl
+digits_ascii : (ds : List ℕ) → AllDigits 16 ds → IsAscii ds
+digits_ascii [] all = IsAscii-nil
+digits_ascii (d ∷ ds) all = let low : d < 128 = grind (arith, nat_tests, all.0) in IsAscii-cons d ds low (digits_ascii ds all.1)
 
-module _ (before run rest : List ℕ) (c : ℕ) where
-  pub on_character : (c ≡ 0x20 → ⊥) → codes_on before run (c ∷ rest) ≡ codes_on before (run ++ c ∷ []) rest
-  on_character ne = rw (ne_eqb c 0x20 ne)
+-- digits are the same bytes as characters
+chars-digits : (bs : List ℕ) → IsUtf8 bs → AllDigits 16 bs ⊎ AllDigits 16 (chars bs) → chars bs ≡ bs
+chars-digits bs u (inl all) = chars-IsAscii bs (digits_ascii bs all)
+chars-digits bs u (inr all) = sym (encodes-IsAscii (chars bs) (digits_ascii (chars bs) all)) ∙ encodes-chars bs u
 
-  at_blank : c ≡ 0x20 →
-      codes_on before run (c ∷ rest) ≡ option_map (λ new. before ++ new) (both (every (map code_named (word run))) (every (map code_named (words_from [] rest))))
-  at_blank e =
-      rw (eq-eqb c 0x20 e)
-      (ap (λ os. option_map (λ new. before ++ new) (every os)) (map-append code_named (word run) (words_from [] rest))
-      ∙ ap (option_map (λ new. before ++ new)) (every_append (map code_named (word run)) (map code_named (words_from [] rest))))
-
-  pub on_blank : (after : List ℕ) → c ≡ 0x20 → Added before run after true → codes_on before run (c ∷ rest) ≡ codes_on after [] rest
-  on_blank after e h = at_blank e ∙ go (every (map code_named (word run))) (every (map code_named (words_from [] rest))) h
-    where
-      go : (o r : Option (List ℕ)) → option_map (λ new. before ++ new) o ≡ Some after → option_map (λ new. before ++ new) (both o r) ≡ option_map (λ new. after ++ new) r
-      go None r k = let z : ◌≡◌ {A = ℕ} 0 1 = cc in absurd (omega arith)
-      go (Some a) None k = refl
-      go (Some a) (Some n) k = let same : before ++ a ≡ after = cc in ap Some (sym (append_assoc before a n) ∙ ap (λ t. t ++ n) same)
-
-  pub on_no_code : (after : List ℕ) → c ≡ 0x20 → Added before run after false → codes_on before run (c ∷ rest) ≡ None
-  on_no_code after e h = at_blank e ∙ go (every (map code_named (word run))) (every (map code_named (words_from [] rest))) h
-    where
-      go : (o r : Option (List ℕ)) → option_map (λ new. before ++ new) o ≡ None → option_map (λ new. before ++ new) (both o r) ≡ None
-      go None r k = refl
-      go (Some a) r k = let z : ◌≡◌ {A = ℕ} 0 1 = cc in absurd (omega arith)
-
--- the run that begins at start and ends before at
-abbrev pub run_of : List ℕ → ℕ → ℕ → List ℕ
-run_of characters start at = take (at - start) (drop start characters)
-
-module _ (characters : List ℕ) (start at c : ℕ) (h : at < length characters) (e : c ≡ get_or characters at c) (before : List ℕ) where
-  here : drop at characters ≡ c ∷ drop (at + 1) characters
-  here = drop_more characters at c h ∙ ap (λ x. x ∷ drop (at + 1) characters) (sym e)
-
-  pub turn_character : start ≤ at → (c ≡ 0x20 → ⊥) →
-      codes_on before (run_of characters start at) (drop at characters) ≡ codes_on before (run_of characters start (at + 1)) (drop (at + 1) characters)
-  turn_character s ne =
-      let k : at + 1 - start ≡ at - start + 1 = omega arith in
-      let there : start + (at - start) ≡ at = omega arith in
-      let l : at - start < length (drop start characters) = simp length-drop (omega arith) in
-      let last : get_or (drop start characters) (at - start) c ≡ c = get_or-drop start characters (at - start) c ∙ ap (λ n. get_or characters n c) there ∙ sym e in
-      let longer : run_of characters start (at + 1) ≡ run_of characters start at ++ c ∷ [] =
-      ap (λ n. take n (drop start characters)) k ∙ take_more (drop start characters) (at - start) c l ∙ ap (λ x. run_of characters start at ++ x ∷ []) last in
-      ap (codes_on before (run_of characters start at)) here ∙ on_character before (run_of characters start at) (drop (at + 1) characters) c ne
-      ∙ ap (λ run. codes_on before run (drop (at + 1) characters)) (sym longer)
-
-  pub turn_blank : (after : List ℕ) → c ≡ 0x20 → Added before (run_of characters start at) after true →
-      codes_on before (run_of characters start at) (drop at characters) ≡ codes_on after (run_of characters (at + 1) (at + 1)) (drop (at + 1) characters)
-  turn_blank after blank a =
-      let k : at + 1 - (at + 1) ≡ 0 = omega arith in
-      ap (codes_on before (run_of characters start at)) here ∙ on_blank before (run_of characters start at) (drop (at + 1) characters) c after blank a
-      ∙ ap (λ n. codes_on after (take n (drop (at + 1) characters)) (drop (at + 1) characters)) (sym k)
-
-  pub turn_none : (after : List ℕ) → c ≡ 0x20 → Added before (run_of characters start at) after false →
-      codes_on before (run_of characters start at) (drop at characters) ≡ None
-  turn_none after blank a =
-      ap (codes_on before (run_of characters start at)) here ∙ on_no_code before (run_of characters start at) (drop (at + 1) characters) c after blank a
-
--- the last run
-pub turn_end : (characters : List ℕ) (start at : ℕ) (before after : List ℕ) (b : Bool) → at ≡ length characters →
-    Added before (run_of characters start (length characters)) after b → codes_on before (run_of characters start at) (drop at characters) ≡ then_some b after
-turn_end characters start at before after b e a =
-    rw e (ap (codes_on before (run_of characters start (length characters))) (drop_all (length characters) characters (omega arith)) ∙ a)
+pub number_read : {E : Type 0} (digits : List ℕ) (r : Result ℕ E) → IsUtf8 digits → get_or digits 0 0 ≢ 0x2B → ParsesUnsigned 32 16 digits r → result_ok r ≡ number (chars digits)
+number_read digits r u p h = grind (arith, rw (without_leading_plus_none digits p) at h, chars-digits digits u, number-is (chars digits))

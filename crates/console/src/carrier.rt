@@ -1,7 +1,11 @@
 // The two carriers by name.
 ghost use Rattle.std.specs.Prelude.{◌≡◌, ◌*◌, take, drop};
+ghost use Rattle.std.specs.Result.{result_ok};
 ghost use Rattle.console.specs.Converting.{bytes_a_cell};
 ghost use Rattle.console.specs.Words.{Names, carrier_name};
+
+use std::str::FromStr;
+use thiserror::Error;
 
 #[derive(Clone, Copy)]
 pub enum Carrier {
@@ -9,18 +13,27 @@ pub enum Carrier {
     Unicode,
 }
 
-impl Carrier {
-    // The carrier of a name.
-    pub fn named(word: &str) -> Option<Carrier>
-        ensures { Names carrier_name word.now result }
-    {
+// A word that names no carrier.
+#[derive(Clone, Copy, PartialEq, Eq, Debug, Error)]
+#[error("a carrier is ascii or unicode")]
+pub struct UnknownCarrier;
+
+// A table of its own, as for all enums that a word or a number names.
+impl FromStr for Carrier {
+    type Err = UnknownCarrier;
+
+    ghost from_str_gives = { λ word named. Names carrier_name word (result_ok named) };
+
+    fn from_str(word: &str) -> Result<Carrier, UnknownCarrier> {
         match word {
-            "ascii" => Some(Carrier::Ascii),
-            "unicode" => Some(Carrier::Unicode),
-            _ => None,
+            "ascii" => Ok(Carrier::Ascii),
+            "unicode" => Ok(Carrier::Unicode),
+            _ => Err(UnknownCarrier),
         }
     }
+}
 
+impl Carrier {
     // The number of bytes a cell.
     pub fn width(self) -> usize
         ensures { result ≡ bytes_a_cell self }
@@ -36,8 +49,7 @@ impl Carrier {
         ensures { result.now ≡ take (bytes_a_cell self) (drop (place * bytes_a_cell self) bytes.now) }
     {
         let width = self.width();
-        let start = place.saturating_mul(width).min(bytes.len());
-        let end = start.saturating_add(width).min(bytes.len());
-        &bytes[start..end]
+        let rest = bytes.get(place.saturating_mul(width)..).unwrap_or(&[]);
+        rest.get(..width).unwrap_or(rest)
     }
 }

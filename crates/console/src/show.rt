@@ -31,20 +31,20 @@ impl Notation {
 fn braille(place: Place) -> char
     ensures { result ≡ braille_shown place }
 {
-    match place {
-        Place::Cell(cell) if cell < 64 => char::from_u32(0x2800 + cell as u32).unwrap_or(SPOILT),
-        _ => SPOILT,
-    }
+    place
+        .cell()
+        .and_then(|cell| char::from_u32(0x2800 + u32::from(cell)))
+        .unwrap_or(SPOILT)
 }
 
 fn character(place: Place) -> char
     ensures { result ≡ character_shown place }
 {
-    let Place::Cell(cell) = place else {
-        return SPOILT;
-    };
-    match ascii::byte_of(cell) {
-        Some(byte) => byte.to_ascii_lowercase() as char,
-        None => SPOILT,
+    match place {
+        Place::Cell(cell) => ascii::byte_of(cell).map_or(
+            SPOILT,
+            |byte| char::from(byte.to_ascii_lowercase()),
+        ),
+        Place::Spoilt => SPOILT,
     }
 }

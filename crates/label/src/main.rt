@@ -10,6 +10,7 @@ mod tape;
 use command::Command;
 use failure::Failure;
 use std::env;
+use std::io::{self, Read};
 use std::process::ExitCode;
 
 const USAGE: &str = "usage:
@@ -27,12 +28,18 @@ CODES is one argument of up to five signs of the house, with blanks between them
 character, or U+ and hexadecimal digits. They take the strings @#? ^#? _#? \"#? .#? in turn.
 ";
 
+fn input(rt: &HostRuntime) -> io::Result<Vec<u8>> {
+    let mut bytes = Vec::new(rt.alloc());
+    rt.stdin().read_to_end(&mut bytes)?;
+    Ok(bytes)
+}
+
 fn run(rt: &HostRuntime) -> Result<(), Failure> {
-    match command::parse(rt.alloc(), env::args(rt)?)? {
+    match Command::parse(rt.alloc(), env::args(rt)?)? {
         Command::Demonstrate => demonstration::run(rt),
-        Command::Convert(from, to) => tape::convert_input(rt, from, to),
-        Command::Show(from) => tape::show_input(rt, from),
-        Command::Signs(codes) => sign_table::print_signs(rt, codes.as_slice()),
+        Command::Convert { from, to } => tape::convert_input(rt, &input(rt)?, from, to),
+        Command::Show(from) => tape::show_input(rt, &input(rt)?, from),
+        Command::Signs(codes) => sign_table::print_signs(rt, &codes),
         Command::Help => Ok(print!(rt; "{USAGE}")?),
     }
 }

@@ -10,14 +10,12 @@ use tables::house::{HouseSigns, check_house};
 use tables::ueb::Ueb;
 
 // Prints the print signs of UEB, and then the house signs that are laid over them; or nothing.
-pub(crate) fn print_signs(rt: &HostRuntime, codes: &[u32]) -> Result<(), Failure> {
+pub(crate) fn print_signs(rt: &(impl Print + AllocGlobal), codes: &[u32]) -> Result<(), Failure> {
     check_house(&Ueb, codes)?;
     let table = HouseSigns::lay(Ueb, codes);
     println!(rt; "sign  code      cells  dots")?;
-    for number in 0..Ueb.count() {
-        if let Some(listed) = Ueb.listed(number) {
-            print_sign(rt, &table, listed.code)?;
-        }
+    for listed in Ueb.signs() {
+        print_sign(rt, &table, listed.code)?;
     }
     for code in codes {
         print_sign(rt, &table, *code)?;
@@ -26,13 +24,17 @@ pub(crate) fn print_signs(rt: &HostRuntime, codes: &[u32]) -> Result<(), Failure
 }
 
 // Prints one sign that the table lists.
-fn print_sign<T: SignTable>(rt: &HostRuntime, table: &T, code: u32) -> Result<(), Failure> {
+fn print_sign<T: SignTable>(
+    rt: &(impl Print + AllocGlobal),
+    table: &T,
+    code: u32,
+) -> Result<(), Failure> {
     let Some(string) = table.string_of(code) else {
         return Ok(());
     };
     let strip = CellStrip(string);
-    let characters = row(rt, &strip, Notation::BrailleAscii, 0, string.len())?;
-    let dots = row(rt, &strip, Notation::Dots, 0, string.len())?;
+    let characters = row(rt.alloc(), &strip, 0..strip.len(), Notation::BrailleAscii)?;
+    let dots = row(rt.alloc(), &strip, 0..strip.len(), Notation::Dots)?;
     let sign = shown(code);
     let number = format!(in rt.alloc(); "U+{code:04X}")?;
     Ok(println!(rt; "{sign}     {number:<8}  {characters:<5}  {dots}")?)
@@ -40,8 +42,7 @@ fn print_sign<T: SignTable>(rt: &HostRuntime, table: &T, code: u32) -> Result<()
 
 // The character of a code, and a blank for one that moves the line.
 fn shown(code: u32) -> char {
-    match char::from_u32(code) {
-        Some(sign) if !sign.is_control() => sign,
-        _ => ' ',
-    }
+    char::from_u32(code)
+        .filter(|sign| !sign.is_control())
+        .unwrap_or(' ')
 }

@@ -1,4 +1,4 @@
-// Tapes read from standard input.
+// Tapes, written in the other carrier or shown to a person.
 use crate::failure::Failure;
 use carriers::ascii::AsciiStrip;
 use carriers::unicode::UnicodeStrip;
@@ -7,36 +7,39 @@ use cells::strip::Strip;
 use console::carrier::Carrier;
 use console::convert::convert;
 use console::show::Notation;
-use std::io::{Read, Write};
-
-fn input(rt: &HostRuntime) -> Result<Vec<u8>, Failure> {
-    let mut bytes = Vec::new(rt.alloc());
-    rt.stdin().read_to_end(&mut bytes)?;
-    Ok(bytes)
-}
+use std::alloc::{AllocError, Global};
+use std::fmt;
+use std::io::{self, Write};
+use std::ops::Range;
 
 // Writes the input in the other carrier, or nothing.
-pub(crate) fn convert_input(rt: &HostRuntime, from: Carrier, to: Carrier) -> Result<(), Failure> {
-    let bytes = input(rt)?;
-    let Some(size) = bytes.len().checked_mul(to.width()) else {
-        return Err(Failure::NoMemory);
-    };
+pub(crate) fn convert_input(
+    rt: &(impl Print + AllocGlobal),
+    input: &[u8],
+    from: Carrier,
+    to: Carrier,
+) -> Result<(), Failure> {
+    let size = input.len().checked_mul(to.width()).ok_or(Failure::TooLong)?;
     let mut memory = vec![in rt.alloc(); 0; size]?;
-    match convert(from, bytes.as_slice(), to, memory.as_mut_slice()) {
-        Ok(pressed) => Ok(rt.stdout().write_all(pressed)?),
-        Err(CopyRefusal::SpoiltAt(place)) => {
-            let found = hexadecimal(rt, from.group(bytes.as_slice(), place))?;
-            Err(Failure::Spoilt(place, found))
+    match convert(from, input, to, &mut memory) {
+        Ok(pressed) => Ok(io::writer(rt).write_all(pressed)?),
+        Err(refusal @ CopyRefusal::SpoiltAt(place)) => {
+            let found = Hexadecimal(from.group(input, place)).to_string(rt.alloc())?;
+            Err(Failure::Spoilt { refusal, found })
         }
         Err(refusal) => Err(Failure::Refused(refusal)),
     }
 }
 
-pub(crate) fn show_input(rt: &HostRuntime, from: Carrier) -> Result<(), Failure> {
-    let bytes = input(rt)?;
+pub(crate) fn show_input(
+    rt: &(impl Print + AllocGlobal),
+    input: &[u8],
+    from: Carrier,
+) -> Result<(), Failure> {
+    // A line for each carrier, since its code is a type.
     match from {
-        Carrier::Ascii => show(rt, &AsciiStrip(bytes.as_slice())),
-        Carrier::Unicode => show(rt, &UnicodeStrip(bytes.as_slice())),
+        Carrier::Ascii => show(rt, &AsciiStrip::new(input)),
+        Carrier::Unicode => show(rt, &UnicodeStrip::new(input)),
     }
 }
 
@@ -44,43 +47,42 @@ pub(crate) fn show_input(rt: &HostRuntime, from: Carrier) -> Result<(), Failure>
 const ROW: usize = 40;
 
 // Prints rows of dots with their Braille ASCII below, each with the number of its first place.
-pub(crate) fn show<S: Strip>(rt: &HostRuntime, strip: &S) -> Result<(), Failure> {
+pub(crate) fn show<S: Strip>(rt: &(impl Print + AllocGlobal), strip: &S) -> Result<(), Failure> {
     println!(rt; "       0         10        20        30")?;
-    for count in 0..strip.len().div_ceil(ROW) {
-        let start = count.saturating_mul(ROW);
+    for start in (0..strip.len()).step_by(ROW) {
         let end = start.saturating_add(ROW);
-        let dots = row(rt, strip, Notation::Dots, start, end)?;
-        let characters = row(rt, strip, Notation::BrailleAscii, start, end)?;
+        let dots = row(rt.alloc(), strip, start..end, Notation::Dots)?;
+        let characters = row(rt.alloc(), strip, start..end, Notation::BrailleAscii)?;
         println!(rt; "{start:>5}  {dots}\n       {characters}")?;
     }
     Ok(())
 }
 
-// The places from start up to end.
+// These places of a strip, as far as it goes.
 pub(crate) fn row<S: Strip>(
-    rt: &HostRuntime,
+    heap: Global,
     strip: &S,
+    places: Range<usize>,
     notation: Notation,
-    start: usize,
-    end: usize,
-) -> Result<String, Failure> {
-    let mut text = String::new(rt.alloc());
-    for at in start..end {
-        if let Some(place) = strip.at(at) {
-            text.push(notation.show(place))?;
-        }
-    }
-    Ok(text)
+) -> Result<String, AllocError> {
+    places
+        .filter_map(|at| strip.at(at))
+        .map(|place| notation.show(place))
+        .collect(heap)
 }
 
-// Bytes in hexadecimal.
-pub(crate) fn hexadecimal(rt: &HostRuntime, bytes: &[u8]) -> Result<String, Failure> {
-    let mut text = String::new(rt.alloc());
-    for byte in bytes {
-        if !text.is_empty() {
-            text.push(' ')?;
+// Bytes in hexadecimal, with blanks between them. (Nothing of the library parts what is printed piece by piece.)
+#[derive(Clone, Copy)]
+pub(crate) struct Hexadecimal<'a>(pub(crate) &'a [u8]);
+
+impl fmt::Display for Hexadecimal<'_> {
+    fn fmt<W: fmt::Write>(&self, f: &mut fmt::Formatter<W>) -> fmt::Result {
+        for (at, byte) in self.0.iter().enumerate() {
+            if at > 0 {
+                f.write_str(" ")?;
+            }
+            write!(f, "{byte:02X}")?;
         }
-        text.push_str(format!(in rt.alloc(); "{byte:02X}")?.as_str())?;
+        Ok(())
     }
-    Ok(text)
 }

@@ -4,3 +4,4 @@ pub mod Apart
 pub mod Letters
 pub mod Strings
 pub mod Tables
+pub mod Sets

@@ -1,13 +1,16 @@
 -- What a table answers, from what its parts answer.
-use Rattle.std.proofs.Common.{◌≡◌, ℕ, ◌+◌, ◌<◌, Bool, true, false, cond, ◌&&◌, ◌||◌, eqb, List, [], ◌∷◌, ◌++◌, length, get_or, take, drop, Some, None, Option, sym, refl, ap, ◌∙◌, arith}
-use Rattle.std.specs.Option.{option_or}
-use Rattle.std.specs.List.{slice_get}
-use Rattle.std.proofs.lemmas.List.{take_more, at_drop_more}
-use Rattle.std.proofs.lemmas.Option.{slice_get-get_or}
+use Rattle.std.proofs.Common.{◌≡◌, ℕ, Bool, true, false, cond, ◌||◌, eqb, List, [], ◌∷◌, ◌++◌, map, fold, length, Some, None, Option, refl, sym, ap, ◌∙◌}
+use Rattle.std.specs.Option.{option_or, option_map}
+use lib.Pointwise.{pointwise}
+use Rattle.std.specs.List.{find, starts_with}
+use Rattle.std.proofs.lemmas.Bool.{both_ways}
+use Rattle.signs.proofs.Strings.{eqb_sym, starts_front, pointwise_same}
+use Rattle.signs.specs.Listings.{entry_of}
 use Rattle.signs.specs.Strings.{same, begins}
 use Rattle.signs.specs.Tables.{Entry, Table, first_of, string_of, code_of, begin_one, matched, look_up, or_match}
+use Rattle.signs.specs.declared.listing.Listed.{Listed}
+use Rattle.signs.specs.declared.table.Match.{Match}
 use Rattle.signs.specs.declared.table.Match.TheVariants.{Whole, Beginning, Neither}
-use Rattle.signs.proofs.Strings.{same_as_long}
 
 -- Two tables, the one before the other
 
@@ -48,41 +51,53 @@ look_up_append a b (c ∷ cells) =
     (λ i. matched (code_of_append a b (c ∷ cells) i) (begin_one_append a b (c ∷ cells) i))
     ∙ matched_or (code_of a (c ∷ cells)) (code_of b (c ∷ cells)) (begin_one a (c ∷ cells)) (begin_one b (c ∷ cells))
 
+-- Lists of signs
+
+or_neither : (m : Match) → or_match m Neither ≡ m
+or_neither (Whole code) = refl
+or_neither Beginning = refl
+or_neither Neither = refl
+
+or_match_assoc : (a b c : Match) → or_match (or_match a b) c ≡ or_match a (or_match b c)
+or_match_assoc (Whole code) b c = refl
+or_match_assoc Beginning (Whole code) c = refl
+or_match_assoc Beginning Beginning (Whole code) = refl
+or_match_assoc Beginning Beginning Beginning = refl
+or_match_assoc Beginning Beginning Neither = refl
+or_match_assoc Beginning Neither c = refl
+or_match_assoc Neither b c = refl
+
+nothing_listed : (cells : List ℕ) → look_up [] cells ≡ Neither
+nothing_listed [] = refl
+nothing_listed (c ∷ cells) = refl
+
+-- one sign after the other, from what was found before
+pub look_up_from : (signs : List Listed) (cells : List ℕ) (found : Match) →
+    fold (λ (m : Match) (sign : Listed). or_match m (look_up (entry_of sign ∷ []) cells)) found signs ≡ or_match found (look_up (map entry_of signs) cells)
+look_up_from [] cells found = sym (ap (or_match found) (nothing_listed cells) ∙ or_neither found)
+look_up_from (sign ∷ signs) cells found =
+    look_up_from signs cells (or_match found (look_up (entry_of sign ∷ []) cells))
+    ∙ or_match_assoc found (look_up (entry_of sign ∷ []) cells) (look_up (map entry_of signs) cells)
+    ∙ ap (or_match found) (sym (look_up_append (entry_of sign ∷ []) (map entry_of signs) cells))
+
+-- the string of the sign that has the code
+pub string_found : (signs : List Listed) (code : ℕ) → string_of (map entry_of signs) code ≡ option_map (λ (sign : Listed). sign.string.now) (find (λ (sign : Listed). eqb sign.code code) signs)
+string_found [] code = refl
+string_found (sign ∷ signs) code = rw (eqb_sym code sign.code) (by (eqb sign.code code) (string_found signs code))
+  where
+    by : (b : Bool) → string_of (map entry_of signs) code ≡ option_map (λ (s : Listed). s.string.now) (find (λ (s : Listed). eqb s.code code) signs) →
+        cond b (Some sign.string.now) (string_of (map entry_of signs) code) ≡ option_map (λ (s : Listed). s.string.now) (cond b (Some sign) (find (λ (s : Listed). eqb s.code code) signs))
+    by true rest = refl
+    by false rest = rest
+
 -- A table of one entry
 
-pub one_neither : (e : Entry) (cells : List ℕ) → begins cells e.1 ≡ false → look_up (e ∷ []) cells ≡ Neither
-one_neither e [] h = refl
-one_neither e (c ∷ cells) h = rw (same_as_long e.1 (c ∷ cells), h)
-
-pub one_begun : (e : Entry) (cells : List ℕ) → 0 < length cells → begins cells e.1 ≡ true →
-    look_up (e ∷ []) cells ≡ cond (eqb (length cells) (length e.1)) (Whole e.0) Beginning
-one_begun e [] n h = absurd (omega arith)
-one_begun e (c ∷ cells) n h = by (eqb (length (c ∷ cells)) (length e.1)) (same e.1 (c ∷ cells)) (begins (c ∷ cells) e.1) h (same_as_long e.1 (c ∷ cells))
+pub look_up_one : (e : Entry) (cells : List ℕ) → eqb (length cells) 0 ≡ false →
+    look_up (e ∷ []) cells ≡ cond (pointwise eqb e.1 cells) (Whole e.0) (cond (starts_with eqb e.1 cells) Beginning Neither)
+look_up_one e [] h = absurd (both_ways true h refl)
+look_up_one e (c ∷ cells) h = rw (pointwise_same e.1 (c ∷ cells), starts_front (c ∷ cells) e.1) (by (same e.1 (c ∷ cells)) (begins (c ∷ cells) e.1))
   where
-    by : (l s b : Bool) → b ≡ true → s ≡ (b && l) → matched (cond s (Some e.0) None) (b || false) ≡ cond l (Whole e.0) Beginning
-    by l s b t q = grind arith
-
--- Tables gone through by number
-
-pub entry_there : (es : Table) (n : ℕ) → n < length es → None ≡ slice_get es n → ⊥
-entry_there es n h e =
-    let there = slice_get-get_or es n (0, []) h in
-    let z : ◌≡◌ {A = ℕ} 0 1 = cc in omega arith
-
-entry_at : (es : Table) (n : ℕ) (e : Entry) → n < length es → Some e ≡ slice_get es n → get_or es n (0, []) ≡ e
-entry_at es n e h there =
-    let found : Some (get_or es n (0, [])) ≡ Some e = sym (slice_get-get_or es n (0, []) h) ∙ sym there in
-    cc
-
-pub look_up_more : (es : Table) (n : ℕ) (e : Entry) (cells : List ℕ) → n < length es → Some e ≡ slice_get es n →
-    look_up (take (n + 1) es) cells ≡ or_match (look_up (take n es) cells) (look_up (e ∷ []) cells)
-look_up_more es n e cells h there =
-    ap (λ t. look_up t cells) (take_more es n (0, []) h ∙ ap (λ (x : Entry). take n es ++ x ∷ []) (entry_at es n e h there))
-    ∙ look_up_append (take n es) (e ∷ []) cells
-
-pub string_of_more : (es : Table) (n : ℕ) (e : Entry) (code : ℕ) → n < length es → Some e ≡ slice_get es n →
-    string_of (drop n es) code ≡ cond (eqb code e.0) (Some e.1) (string_of (drop (n + 1) es) code)
-string_of_more es n e code h there =
-    let here : string_of (drop n es) code ≡ cond (eqb code (get_or es n (0, [])).0) (Some (get_or es n (0, [])).1) (string_of (drop (n + 1) es) code) =
-    at_drop_more (λ t. string_of t code) es n (0, []) h in
-    here ∙ ap (λ (x : Entry). cond (eqb code x.0) (Some x.1) (string_of (drop (n + 1) es) code)) (entry_at es n e h there)
+    by : (s b : Bool) → matched (cond s (Some e.0) None) (b || false) ≡ cond s (Whole e.0) (cond b Beginning Neither)
+    by true b = refl
+    by false true = refl
+    by false false = refl

@@ -1,8 +1,7 @@
 -- The cells by which each symbol is known, and that no two symbols are taken for one another.
-use Rattle.std.specs.Prelude.{ℕ, ◌≤◌, List, [], ◌∷◌, ◌++◌, map}
+use Rattle.std.specs.Prelude.{ℕ, ◌≤◌, List, [], ◌∷◌, ◌++◌, count_by, map}
 use Rattle.cells.specs.Cells.{braille}
 use Rattle.signs.specs.Laws.{Lawful}
-use Rattle.signs.specs.Lists.{how_many}
 use Rattle.signs.specs.Strings.{begins}
 use Rattle.signs.specs.Symbols.{Symbol, blank, capital, listed, string, plain, indicators, accent_symbols, follow_capital}
 use Rattle.signs.specs.Tables.{Entry, Table}
@@ -30,4 +29,4 @@ known table = always ++ map by_entry table
 
 -- under the laws at most one of them begins any given cells
 abbrev pub ToldApart : Type 0
-ToldApart = (table : Table) → Lawful table → (cells : List ℕ) → how_many (λ (k : KnownBy). begins k.1 cells) (known table) ≤ 1
+ToldApart = (table : Table) → Lawful table → (cells : List ℕ) → count_by (λ (k : KnownBy). begins k.1 cells) (known table) ≤ 1

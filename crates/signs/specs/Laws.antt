@@ -1,9 +1,8 @@
 -- The laws that every sign table obeys, so that what is written can be read in one way only.
-use Rattle.std.specs.Prelude.{◌≡◌, ℕ, ◌<◌, ◌≤◌, Bool, false, not, ◌&&◌, List, [], ◌∷◌, ◌++◌, length, ◌==◌, ◌≢◌, nat_le, nat_lt}
-use Rattle.std.specs.List.{AllByRecursion}
+use Rattle.std.specs.Prelude.{◌≡◌, ℕ, ◌<◌, ◌≤◌, Bool, false, not, ◌&&◌, List, [], ◌∷◌, ◌++◌, All, AllPairs, length, ◌==◌, ◌≢◌, nat_le, nat_lt}
 use Rattle.cells.specs.Cells.{braille}
 use Rattle.cells.specs.Lists.{all}
-use Rattle.signs.specs.Lists.{Pairwise, pairwise}
+use Rattle.signs.specs.Lists.{pairwise}
 use Rattle.signs.specs.Signs.{is_fixed}
 use Rattle.signs.specs.Strings.{begins, Apart, apart}
 use Rattle.signs.specs.Symbols.{string, plain, indicators, accent_symbols, follow_capital}
@@ -13,21 +12,21 @@ use Rattle.signs.specs.Tables.{Entry, Table}
 pub record LawfulString (s : List ℕ) : Type 0 where
   -- one to three cells, none blank
   pub short : (1 ≤ length s) × (length s ≤ 3)
-  pub inked : AllByRecursion (λ c. (0 < c) × (c < 64)) s
+  pub inked : All (λ c. (0 < c) × (c < 64)) s
   -- it does not begin with a letter cell, a comma, a period, the numeric or the grade 1 indicator
-  pub opening : AllByRecursion (λ σ. begins (string σ) s ≡ false) plain
+  pub opening : All (λ σ. begins (string σ) s ≡ false) plain
   -- it begins no indicator and no accent, nor does one of those begin it
-  pub clear : AllByRecursion (λ σ. Apart (string σ) s) (indicators ++ accent_symbols)
+  pub clear : All (λ σ. Apart (string σ) s) (indicators ++ accent_symbols)
   -- after a first , the second cell is no letter cell and none of ^ @ , '
-  pub capped : AllByRecursion (λ c. begins (braille "," ++ c ∷ []) s ≡ false) (follow_capital ++ braille ",'")
+  pub capped : All (λ c. begins (braille "," ++ c ∷ []) s ≡ false) (follow_capital ++ braille ",'")
 
 pub record Lawful (table : Table) : Type 0 where
   -- each code is listed once and is no fixed sign
-  pub once : Pairwise (λ (e f : Entry). e.0 ≢ f.0) table
-  pub unfixed : AllByRecursion (λ (e : Entry). is_fixed e.0 ≡ false) table
-  pub strings : AllByRecursion (λ (e : Entry). LawfulString e.1) table
+  pub once : AllPairs (λ (e f : Entry). e.0 ≢ f.0) table
+  pub unfixed : All (λ (e : Entry). is_fixed e.0 ≡ false) table
+  pub strings : All (λ (e : Entry). LawfulString e.1) table
   -- no string begins another
-  pub free : Pairwise (λ (e f : Entry). Apart e.1 f.1) table
+  pub free : AllPairs (λ (e f : Entry). Apart e.1 f.1) table
 
 -- The same laws as a test, by which a table that is written out shows them
 

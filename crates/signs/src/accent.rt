@@ -1,7 +1,10 @@
 // Accents on letters.
 ghost use Rattle.std.specs.Prelude.{◌≡◌, ◌-◌, if◌then◌else◌, None, nat_eq};
 ghost use Rattle.std.specs.List.{slice_get};
+ghost use Rattle.std.specs.Option.{ok_or};
 ghost use Rattle.signs.specs.Signs.{accents, accent_string};
+
+use thiserror::Error;
 
 #[derive(Clone, Copy, PartialEq, Eq, Debug)]
 pub enum Accent {
@@ -17,26 +20,35 @@ pub enum Accent {
     Cedilla,
 }
 
-impl Accent {
-    // The accent of a number of 1 to 10.
-    pub fn numbered(number: u8) -> Option<Accent>
-        ensures { result ≡ (if nat_eq number 0 then None else slice_get accents (number - 1)) }
-    {
+#[derive(Clone, Copy, PartialEq, Eq, Debug, Error)]
+#[error("no accent has the number {0}")]
+pub struct UnknownAccent(pub u8);
+
+// The accent of a number of 1 to 10. (Each enum that a number names has a table of its own: one function for all would want
+// a list of each, and a law that the list is whole.)
+impl TryFrom<u8> for Accent {
+    type Error = UnknownAccent;
+
+    ghost try_from_gives = { λ number result. result ≡ ok_or (if nat_eq number 0 then None else slice_get accents (number - 1)) (record { 0 = number }) };
+
+    fn try_from(number: u8) -> Result<Self, UnknownAccent> {
         match number {
-            1 => Some(Accent::Grave),
-            2 => Some(Accent::Acute),
-            3 => Some(Accent::Circumflex),
-            4 => Some(Accent::Tilde),
-            5 => Some(Accent::Macron),
-            6 => Some(Accent::Breve),
-            7 => Some(Accent::Diaeresis),
-            8 => Some(Accent::Ring),
-            9 => Some(Accent::Caron),
-            10 => Some(Accent::Cedilla),
-            _ => None,
+            1 => Ok(Accent::Grave),
+            2 => Ok(Accent::Acute),
+            3 => Ok(Accent::Circumflex),
+            4 => Ok(Accent::Tilde),
+            5 => Ok(Accent::Macron),
+            6 => Ok(Accent::Breve),
+            7 => Ok(Accent::Diaeresis),
+            8 => Ok(Accent::Ring),
+            9 => Ok(Accent::Caron),
+            10 => Ok(Accent::Cedilla),
+            _ => Err(UnknownAccent(number)),
         }
     }
+}
 
+impl Accent {
     // The two cells that stand before the letter.
     #[tactic(auto, unfolding(cells::specs::Cells::characters))]
     pub fn cells(self) -> [u8; 2]

@@ -4,7 +4,7 @@ ghost use Rattle.signs.specs.Signs.{kind, fixed_cell, fixed_kind};
 
 use cells::ascii;
 
-// A letter by its number from 0, and a digit by the number of the letter that has its cell.
+// A letter by its number from 0, by which its cell is found, and a digit by the number of the letter that has its cell.
 #[derive(Clone, Copy, PartialEq, Eq, Debug)]
 pub enum Kind {
     Blank,
@@ -17,22 +17,25 @@ pub enum Kind {
     Other,
 }
 
-impl Kind {
-    pub fn of(code: u32) -> Kind
-        ensures { result ≡ kind code }
-    {
-        match code {
-            0x20 => Kind::Blank,
-            0x2C => Kind::Comma,
-            0x2E => Kind::Period,
-            0x30 => Kind::Digit(9),
-            0x31..=0x39 => Kind::Digit((code - 0x31) as u8),
-            0x41..=0x5A => Kind::Capital((code - 0x41) as u8),
-            0x61..=0x7A => Kind::Small((code - 0x61) as u8),
+impl From<u32> for Kind {
+    ghost from_gives = { λ code result. result ≡ kind code };
+
+    #[tactic(auto, using(std::proofs::lemmas::Bool::Decides::nat_tests), unfolding(crate::specs::Signs::kind))]
+    fn from(code: u32) -> Self {
+        match u8::try_from(code) {
+            Ok(b' ') => Kind::Blank,
+            Ok(b',') => Kind::Comma,
+            Ok(b'.') => Kind::Period,
+            Ok(b'0') => Kind::Digit(9),
+            Ok(digit @ b'1'..=b'9') => Kind::Digit(digit - b'1'),
+            Ok(letter @ b'A'..=b'Z') => Kind::Capital(letter - b'A'),
+            Ok(letter @ b'a'..=b'z') => Kind::Small(letter - b'a'),
             _ => Kind::Other,
         }
     }
+}
 
+impl Kind {
     pub fn is_fixed(self) -> bool
         ensures { result ≡ fixed_kind self }
     {

@@ -1,6 +1,6 @@
 // Sign tables: what a table is to everything above.
 ghost use Rattle.std.specs.Prelude.{◌≡◌};
-ghost use Rattle.std.specs.Option.{option_map};
+ghost use Rattle.std.specs.Option.{option_copied};
 ghost use Rattle.signs.specs.Laws.{Lawful};
 ghost use Rattle.signs.specs.Tables.{Table, string_of, look_up, or_match, is_whole, is_neither};
 
@@ -45,7 +45,7 @@ pub trait SignTable {
 
     // The string of a code, if the table lists it.
     fn string_of(&self, code: u32) -> Option<&[u8]>
-        ensures { option_map (λ x. x.now) result ≡ string_of (pairs self.now) code };
+        ensures { option_copied result ≡ string_of (pairs self.now) code };
 
     // What some cells are: one to three may be a string or begin one, and no others are or do.
     fn look_up(&self, cells: &[u8]) -> Match

@@ -1,8 +1,11 @@
 // Typeforms, and sets of them.
 ghost use Rattle.std.specs.Prelude.{◌≡◌, ◌^◌, [], ◌∷◌};
 ghost use Rattle.std.specs.List.{slice_get};
+ghost use Rattle.std.specs.Option.{ok_or};
 ghost use Rattle.signs.specs.Signs.{typeforms, typeform_number, has_bit};
 ghost use Rattle.signs.specs.Symbols.{mark};
+
+use thiserror::Error;
 
 #[derive(Clone, Copy, PartialEq, Eq, Debug)]
 pub enum Typeform {
@@ -12,20 +15,28 @@ pub enum Typeform {
     Script,
 }
 
-impl Typeform {
-    // The typeform of a number of 0 to 3.
-    pub fn numbered(number: u8) -> Option<Typeform>
-        ensures { result ≡ slice_get typeforms number }
-    {
+#[derive(Clone, Copy, PartialEq, Eq, Debug, Error)]
+#[error("no typeform has the number {0}")]
+pub struct UnknownTypeform(pub u8);
+
+// The typeform of a number of 0 to 3: a table of its own, as for accents.
+impl TryFrom<u8> for Typeform {
+    type Error = UnknownTypeform;
+
+    ghost try_from_gives = { λ number result. result ≡ ok_or (slice_get typeforms number) (record { 0 = number }) };
+
+    fn try_from(number: u8) -> Result<Self, UnknownTypeform> {
         match number {
-            0 => Some(Typeform::Italic),
-            1 => Some(Typeform::Bold),
-            2 => Some(Typeform::Underline),
-            3 => Some(Typeform::Script),
-            _ => None,
+            0 => Ok(Typeform::Italic),
+            1 => Ok(Typeform::Bold),
+            2 => Ok(Typeform::Underline),
+            3 => Ok(Typeform::Script),
+            _ => Err(UnknownTypeform(number)),
         }
     }
+}
 
+impl Typeform {
     // What it counts in a set.
     pub fn weight(self) -> u8
         ensures { result ≡ 2 ^ typeform_number self }
@@ -59,9 +70,10 @@ pub struct Typeforms {
 }
 
 impl Typeforms {
+    #[tactic(auto, using(crate::proofs::Sets::bit_test), unfolding(crate::specs::Signs::has_bit))]
     pub fn has(self, form: Typeform) -> bool
         ensures { result ≡ has_bit (typeform_number form) self.set }
     {
-        self.set / form.weight() % 2 == 1
+        self.set & form.weight() != 0
     }
 }

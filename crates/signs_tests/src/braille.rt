@@ -2,13 +2,7 @@
 use cells::ascii;
 
 pub(crate) fn is_string(string: &[u8], characters: &str) -> bool {
-    if string.len() != characters.len() {
-        return false;
-    }
-    for (cell, character) in string.iter().zip(characters.as_bytes()) {
-        if ascii::cell_of(*character) != Some(*cell) {
-            return false;
-        }
-    }
-    true
+    string.len() == characters.len()
+        && string.iter().zip(characters.bytes()).all(|(cell, character)| ascii::cell_of(character)
+            == Some(*cell))
 }

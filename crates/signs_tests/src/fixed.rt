@@ -1,5 +1,6 @@
 // Fixed signs, accents and typeforms.
 use crate::braille::is_string;
+use cells::ascii;
 use signs::accent::Accent;
 use signs::kind::Kind;
 use signs::typeform::{Typeform, Typeforms};
@@ -14,50 +15,37 @@ const FIXED: [(&str, &str); 4] = [
 ];
 
 #[test]
-fn fixed_signs_and_their_cells(rt: HostRuntime) -> Result<(), Fail> {
+fn fixed_signs_and_their_cells(rt: HostRuntime) {
     for (signs, cells) in FIXED {
         for (sign, cell) in signs.bytes().zip(cells.bytes()) {
-            let kind = Kind::of(sign as u32);
-            let Some(found) = kind.cell() else {
-                return Err("no cell".into());
-            };
-            assert!(rt; kind.is_fixed() && is_string(&[found], char_text(&[cell])));
+            let kind = Kind::from(u32::from(sign));
+            assert!(rt; kind.is_fixed() && kind.cell().is_some());
+            assert_eq!(rt; kind.cell(), ascii::cell_of(cell));
         }
-    }
-    Ok(())
-}
-
-fn char_text(bytes: &[u8]) -> &str {
-    match std::str::from_utf8(bytes) {
-        Ok(text) => text,
-        Err(_) => "",
     }
 }
 
 #[test]
 fn all_other_codes_are_free(rt: HostRuntime) {
-    let mut fixed = 0u32;
-    for code in 0..0x200u32 {
-        if Kind::of(code).is_fixed() {
-            fixed = fixed.saturating_add(1);
-        }
-    }
-    assert!(rt; fixed == 65 && Kind::of(0xE9) == Kind::Other && Kind::of(u32::MAX) == Kind::Other);
+    let fixed = (0..0x200u32)
+        .filter(|code| Kind::from(*code).is_fixed())
+        .count();
+    assert!(rt;
+        fixed == 65 && Kind::from(0xE9) == Kind::Other && Kind::from(u32::MAX) == Kind::Other
+    );
     assert!(rt; Kind::Small(26).cell() == None && Kind::Other.cell() == None);
-    assert!(rt; Kind::of(0x30) == Kind::Digit(9) && Kind::of(0x42) == Kind::Capital(1));
+    assert!(rt; Kind::from(0x30) == Kind::Digit(9) && Kind::from(0x42) == Kind::Capital(1));
 }
 
 const ACCENTS: [&str; 10] = ["^*", "^/", "^%", "^]", "@-", "@+", "^3", "^$", "^+", "^&"];
 
 #[test]
 fn accents_by_number(rt: HostRuntime) -> Result<(), Fail> {
-    for (at, cells) in ACCENTS.iter().enumerate() {
-        let Some(accent) = Accent::numbered(at as u8 + 1) else {
-            return Err("no accent".into());
-        };
+    for (number, cells) in (1u8..).zip(ACCENTS) {
+        let accent = Accent::try_from(number)?;
         assert!(rt; is_string(&accent.cells(), cells));
     }
-    assert!(rt; Accent::numbered(0).is_none() && Accent::numbered(11).is_none());
+    assert!(rt; Accent::try_from(0).is_err() && Accent::try_from(11).is_err());
     Ok(())
 }
 
@@ -69,12 +57,12 @@ fn typeforms_and_their_sets(rt: HostRuntime) {
         (Typeform::Underline, 4, "_"),
         (Typeform::Script, 8, "@"),
     ];
-    for (at, (form, weight, mark)) in forms.iter().enumerate() {
-        assert!(rt; Typeform::numbered(at as u8) == Some(*form) && form.weight() == *weight);
+    for (number, (form, weight, mark)) in (0u8..).zip(forms) {
+        assert!(rt; Typeform::try_from(number) == Ok(form) && form.weight() == weight);
         assert!(rt; is_string(&[form.mark()], mark));
         assert!(rt;
-            Typeforms { set: *weight }.has(*form) && !Typeforms { set: 15 - *weight }.has(*form)
+            Typeforms { set: weight }.has(form) && !Typeforms { set: 15 - weight }.has(form)
         );
     }
-    assert!(rt; Typeform::numbered(4) == None);
+    assert!(rt; Typeform::try_from(4).is_err());
 }

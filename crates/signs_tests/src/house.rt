@@ -3,6 +3,7 @@ use crate::braille::is_string;
 use crate::small_tables::{NoSigns, OneSign};
 use signs::table::{Match, SignTable};
 use std::process::Abort;
+use std::test::Fail;
 use tables::clash::{Clash, HouseRefusal};
 use tables::house::{HouseSigns, check_house};
 use tables::ueb::Ueb;
@@ -27,7 +28,10 @@ fn lists_that_may_be_laid(rt: HostRuntime) {
         check_house(&Ueb, &[SUN, CLOUD, 0xE9, 0x10FFFF, 0xE000]),
         Ok(())
     );
-    assert_eq!(rt; check_house(&NoSigns, &['?' as u32, SUN, CLOUD]), Ok(()));
+    assert_eq!(rt;
+        check_house(&NoSigns, &[u32::from('?'), SUN, CLOUD]),
+        Ok(())
+    );
     assert_eq!(rt; check_house(&OneSign, &[SUN, CLOUD]), Ok(()));
 }
 
@@ -127,4 +131,39 @@ fn house_signs_over_nothing(rt: HostRuntime) {
     assert!(rt;
         table.look_up(&[]) == Match::Neither && table.look_up(&[8, 60, 57, 57]) == Match::Neither
     );
+}
+
+#[test]
+fn refusals_as_they_are_told(rt: HostRuntime) -> Result<(), Fail> {
+    let told = [
+        (
+            HouseRefusal::TooMany,
+            "refusal 19: there are more than 5 house codes",
+        ),
+        (
+            HouseRefusal::ClashAt(0, Clash::NoScalar),
+            "refusal 20 at position 0: the code is no Unicode scalar value",
+        ),
+        (
+            HouseRefusal::ClashAt(1, Clash::Fixed),
+            "refusal 20 at position 1: the code is a fixed sign",
+        ),
+        (
+            HouseRefusal::ClashAt(2, Clash::ListedBelow),
+            "refusal 20 at position 2: the table below has the code",
+        ),
+        (
+            HouseRefusal::ClashAt(3, Clash::StandsTwice),
+            "refusal 20 at position 3: the code stands twice in the list",
+        ),
+        (
+            HouseRefusal::ClashAt(4, Clash::StringTaken),
+            "refusal 20 at position 4: its string begins one of the table below, or one of those begins it",
+        ),
+    ];
+    for (refusal, text) in told {
+        let shown = refusal.to_string(rt.alloc())?;
+        assert!(rt; shown.as_str() == text);
+    }
+    Ok(())
 }

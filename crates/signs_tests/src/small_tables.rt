@@ -32,24 +32,17 @@ impl SignTable for NoSigns {
 #[derive(Clone, Copy)]
 pub(crate) struct OneSign;
 
-const COMET: Listed<'static> = Listed {
+static COMET: [Listed<'static>; 1] = [Listed {
     code: 0x2604,
     string: &[56, 60],
-};
+}];
 
 impl Listing for OneSign {
     ghost entries = { λ _. one_sign };
 
-    fn count(&self) -> usize {
-        1
-    }
-
     #[tactic(auto, unfolding(cells::specs::Cells::characters))]
-    fn listed(&self, number: usize) -> Option<Listed<'_>> {
-        match number {
-            0 => Some(COMET),
-            _ => None,
-        }
+    fn signs(&self) -> &[Listed<'_>] {
+        &COMET
     }
 }
 

@@ -59,7 +59,7 @@ const ROWS: [(char, &str); 50] = [
 ];
 
 fn found(number: usize, sign: char, cells: &str) -> bool {
-    let code = sign as u32;
+    let code = u32::from(sign);
     let (Some(string), Some(listed)) = (Ueb.string_of(code), Ueb.listed(number)) else {
         return false;
     };
@@ -80,12 +80,9 @@ fn fifty_signs_there_and_back(rt: HostRuntime) {
 
 #[test]
 fn nothing_else_is_listed(rt: HostRuntime) {
-    let mut listed = 0u32;
-    for code in 0..0x3000u32 {
-        if Ueb.string_of(code).is_some() {
-            listed = listed.saturating_add(1);
-        }
-    }
+    let listed = (0..0x3000u32)
+        .filter(|code| Ueb.string_of(*code).is_some())
+        .count();
     assert!(rt; listed == 50);
     for code in [0x41, 0x20, 0xD800, 0x2600, 0x110000, u32::MAX] {
         assert!(rt; Ueb.string_of(code).is_none());
@@ -98,7 +95,7 @@ fn beginnings(rt: HostRuntime) {
     for first in [8, 16, 24, 32, 40, 56] {
         assert!(rt; Ueb.look_up(&[first]) == Match::Beginning);
     }
-    assert!(rt; Ueb.look_up(&[38]) == Match::Whole('?' as u32));
+    assert!(rt; Ueb.look_up(&[38]) == Match::Whole(u32::from('?')));
     assert!(rt; Ueb.look_up(&[1]) == Match::Neither && Ueb.look_up(&[60]) == Match::Neither);
     assert!(rt;
         Ueb.look_up(&[38, 38]) == Match::Neither && Ueb.look_up(&[8, 60]) == Match::Neither

@@ -1,7 +1,6 @@
 -- A string of three cells is apart from all strings of a table, by what the table answers of its beginnings.
-use Rattle.std.proofs.Common.{◌≡◌, ℕ, ◌≤◌, Bool, true, false, cond, not, ◌&&◌, ◌||◌, List, [], ◌∷◌, length, take, is_some, Some, None, Option, sym, refl, ◌∙◌, arith}
-use Rattle.std.specs.List.{AllByRecursion}
-use Rattle.std.proofs.ByRecursion.{All-weaker}
+use Rattle.std.proofs.Common.{◌≡◌, ℕ, ◌≤◌, Bool, true, false, cond, not, ◌&&◌, ◌||◌, List, [], ◌∷◌, All, length, take, is_some, Some, None, Option, sym, refl, ◌∙◌, arith}
+use Rattle.std.proofs.lemmas.List.Elements.{All-head, All-tail, All-weaker}
 use Rattle.tables.specs.House.{is_clear}
 use Rattle.signs.specs.Laws.{Lawful, LawfulString}
 use Rattle.signs.specs.Strings.{same, begins}
@@ -42,10 +41,10 @@ module _ (a b c : ℕ) where
       not (is_some (code_of table (a ∷ []))) && (not (is_some (code_of table (a ∷ b ∷ [])))
       && (not (is_some (code_of table (a ∷ b ∷ c ∷ []))) && not (begin_one table (a ∷ b ∷ c ∷ []))))
 
-  told_clear : (table : Table) → AllByRecursion Short table → is_clear table (a ∷ b ∷ c ∷ []) ≡ told table
+  told_clear : (table : Table) → All Short table → is_clear table (a ∷ b ∷ c ∷ []) ≡ told table
   told_clear [] h = refl
   told_clear (e ∷ es) h =
-      rw (code_of_some e es (a ∷ []), code_of_some e es (a ∷ b ∷ []), code_of_some e es (a ∷ b ∷ c ∷ []), begins_three e.1 h.0, told_clear es h.1)
+      rw (code_of_some e es (a ∷ []), code_of_some e es (a ∷ b ∷ []), code_of_some e es (a ∷ b ∷ c ∷ []), begins_three e.1 (All-head Short e es h), told_clear es (All-tail Short e es h))
       (mix (begins (a ∷ b ∷ c ∷ []) e.1) (same e.1 (a ∷ [])) (same e.1 (a ∷ b ∷ [])) (same e.1 (a ∷ b ∷ c ∷ [])) _ _ _ _)
     where
       mix : (p q r s : Bool) (t u v w : Bool) →

@@ -1,1 +1,4 @@
 pub mod Clears
+pub mod Houses
+pub mod UebRows
+pub mod Laid

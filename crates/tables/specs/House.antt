@@ -1,13 +1,13 @@
 -- House signs: up to five codes with strings of their own, laid over a table.
-use Rattle.std.specs.Prelude.{ℕ, suc, Bool, cond, not, List, [], ◌∷◌, ◌++◌, map, length, is_some, is_ok, Some, None, Ok, Err, Option, Result, nat_le, nat_lt}
+use Rattle.std.specs.Prelude.{◌≡◌, ℕ, suc, ◌≤◌, Bool, true, false, cond, not, List, [], ◌∷◌, ◌++◌, map, length, is_some, is_ok, Some, None, Ok, Err, Option, Result, zip, nat_le, nat_lt}
 use Rattle.std.proofs.Math.Utf8.{scalar}
-use Rattle.std.specs.Option.{option_map}
+use Rattle.std.specs.Option.{option_map, option_or}
 use Rattle.cells.specs.Cells.{braille}
 use Rattle.cells.specs.Lists.{all}
 use Rattle.signs.specs.Lists.{times}
 use Rattle.signs.specs.Signs.{is_fixed}
 use Rattle.signs.specs.Strings.{apart}
-use Rattle.signs.specs.Tables.{Entry, Table, lists}
+use Rattle.signs.specs.Tables.{Entry, Table, lists, string_of, look_up, or_match, is_neither}
 use Rattle.tables.specs.declared.clash.Clash.{Clash}
 use Rattle.tables.specs.declared.clash.Clash.TheVariants.{NoScalar, Fixed, ListedBelow, StandsTwice, StringTaken}
 use Rattle.tables.specs.declared.clash.HouseRefusal.{HouseRefusal}
@@ -18,13 +18,8 @@ abbrev pub house_strings : List (List ℕ)
 house_strings = braille "@#?" ∷ braille "^#?" ∷ braille "_#?" ∷ braille "\"#?" ∷ braille ".#?" ∷ []
 
 -- each code with the string of its position
-abbrev pub paired : List ℕ → List (List ℕ) → Table
-paired [] ss = []
-paired (c ∷ cs) [] = []
-paired (c ∷ cs) (s ∷ ss) = (c, s) ∷ paired cs ss
-
 abbrev pub house : List ℕ → Table
-house codes = paired codes house_strings
+house codes = zip codes house_strings
 
 -- the string is apart from every string of the table
 abbrev pub is_clear : Table → List ℕ → Bool
@@ -74,3 +69,16 @@ house_refused below codes =
 -- a table with house signs laid over it; a list that fails its check lays nothing
 abbrev pub laid : Table → List ℕ → Table
 laid below codes = cond (is_ok (house_check below codes)) (house codes ++ below) below
+
+-- What such a table answers: first by its house signs, if they are laid, and else from below.
+pub record LaidAnswers : Type 0 where
+  pub laid_string : (below : Table) (codes : List ℕ) (code : ℕ) →
+      string_of (laid below codes) code ≡ cond (is_ok (house_check below codes)) (option_or (string_of (house codes) code) (string_of below code)) (string_of below code)
+  pub laid_look_up : (below : Table) (codes cells : List ℕ) →
+      look_up (laid below codes) cells ≡ cond (is_ok (house_check below codes)) (or_match (look_up (house codes) cells) (look_up below cells)) (look_up below cells)
+  -- what no house sign has is answered from below
+  pub below_string : (below : Table) (codes : List ℕ) (code : ℕ) → None ≡ string_of (house codes) code → string_of (laid below codes) code ≡ string_of below code
+  pub below_look_up : (below : Table) (codes cells : List ℕ) → true ≡ is_neither (look_up (house codes) cells) → look_up (laid below codes) cells ≡ look_up below cells
+  -- a list that passes has at most five codes, and one that fails lays nothing
+  pub checked_few : (below : Table) (codes : List ℕ) → is_ok (house_check below codes) ≡ true → length codes ≤ 5
+  pub unlaid : (below : Table) (codes : List ℕ) → is_ok (house_check below codes) ≡ false → laid below codes ≡ below

@@ -1,4 +1,2 @@
 pub mod Ueb
 pub mod House
-pub mod Houses
-pub mod UebRows

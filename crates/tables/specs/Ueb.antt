@@ -1,8 +1,11 @@
 -- The UEB table of fifty print signs (Rulebook 3 and 7).
-use Rattle.std.specs.Prelude.{ℕ, cond, List, [], ◌∷◌, map, codes, ◌==◌, slice_index}
+use Rattle.std.specs.Prelude.{◌≡◌, ℕ, ◌<◌, List, [], ◌∷◌, map, Some, codes, slice_index, slice_index_or}
+use Rattle.std.specs.List.{slice_get}
+use Rattle.std.specs.Option.{option_map}
 use Prim.Native.String.{String}
 use Rattle.cells.specs.Cells.{braille}
-use Rattle.signs.specs.Tables.{Entry, Table}
+use Rattle.cells.specs.Lists.{index_of}
+use Rattle.signs.specs.Tables.{Entry, Table, string_of}
 
 abbrev pub print_as : String → String → Entry
 print_as character cells = (slice_index (codes character) 0, braille cells)
@@ -30,7 +33,7 @@ ueb_strings = map (λ (e : Entry). e.1) ueb_rows
 unfoldable pub ueb : Table
 ueb = ueb_rows
 
--- the cells before the first blank
-abbrev pub before_blank : List ℕ → List ℕ
-before_blank [] = []
-before_blank (c ∷ cells) = cond (c == 0) [] (c ∷ before_blank cells)
+-- a sign and its string have one number
+pub record UebNumbers : Type 0 where
+  pub ueb_entry : (n : ℕ) → n < 50 → slice_get ueb n ≡ Some (slice_index ueb_codes n, slice_index_or ueb_strings n [])
+  pub ueb_string : (code : ℕ) → string_of ueb code ≡ option_map (λ n. slice_index_or ueb_strings n []) (index_of code 0 ueb_codes)

@@ -1,22 +1,26 @@
 // Why house codes may not be laid over a table.
-#[derive(Clone, Copy, PartialEq, Eq, Debug)]
+use thiserror::Error;
+
+#[derive(Clone, Copy, PartialEq, Eq, Debug, Error)]
 pub enum Clash {
-    // the code is no Unicode scalar value
+    #[error("the code is no Unicode scalar value")]
     NoScalar,
-    // it is a letter, a digit, the blank, the comma or the period
+    // a letter, a digit, the blank, the comma or the period
+    #[error("the code is a fixed sign")]
     Fixed,
-    // the table below lists it
+    #[error("the table below has the code")]
     ListedBelow,
-    // it stands twice in the list
+    #[error("the code stands twice in the list")]
     StandsTwice,
-    // a string of the table below begins its string, or the other way round
+    #[error("its string begins one of the table below, or one of those begins it")]
     StringTaken,
 }
 
-#[derive(Clone, Copy, PartialEq, Eq, Debug)]
+#[derive(Clone, Copy, PartialEq, Eq, Debug, Error)]
 pub enum HouseRefusal {
-    // there are more than five codes
+    #[error("refusal 19: there are more than 5 house codes")]
     TooMany,
     // the code at this position clashes, and none before it does
+    #[error("refusal 20 at position {0}: {1}")]
     ClashAt(usize, Clash),
 }

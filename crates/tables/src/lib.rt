@@ -3,5 +3,4 @@
 
 pub mod clash;
 pub mod house;
-mod house_codes;
 pub mod ueb;

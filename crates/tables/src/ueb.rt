@@ -1,14 +1,18 @@
 // The UEB table of print signs.
-ghost use Rattle.std.specs.Prelude.{◌≡◌, ◌<◌, [], slice_index_or};
+ghost use Rattle.std.specs.Prelude.{◌≡◌, map};
+ghost use Rattle.std.proofs.Math.Path.{refl};
+ghost use Rattle.cells.specs.Cells.{characters};
 ghost use Rattle.cells.specs.Lists.{index_of};
-ghost use Rattle.tables.specs.Ueb.{ueb, ueb_codes, ueb_strings, before_blank};
-ghost use Rattle.tables.specs.UebRows.{ueb_lawful};
+ghost use Rattle.signs.specs.Listings.{entry_of};
+ghost use Rattle.signs.specs.Signs.{kind};
+ghost use Rattle.signs.proofs.Laws.{lawful_true};
+ghost use Rattle.tables.specs.Ueb.{ueb, ueb_codes, UebNumbers};
 
 use signs::listing;
 use signs::listing::{Listed, Listing};
 use signs::table::{Match, SignTable};
 
-// The number of a print sign's string.
+// The number of a print sign's string, by its character alone, so that it is found with no search.
 pub fn string_number(sign: char) -> Option<usize>
     ensures { result ≡ index_of sign 0 ueb_codes }
 {
@@ -67,90 +71,209 @@ pub fn string_number(sign: char) -> Option<usize>
     }
 }
 
-// The signs in the order of their numbers.
-const SIGNS: [char; 50] = [
-    ';', ':', '!', '?', '\'', '-', '(', ')', '[', ']', '{', '}', '<', '>', '/', '\\', '|', '_',
-    '\u{2014}', '"', '“', '”', '‘', '’', '«', '»', '@', '&', '#', '%', '*', '•', '~', '^', '+',
-    '\u{2212}', '×', '÷', '=', '°', '$', '£', '€', '¥', '¢', '§', '¶', '©', '®', '™',
+// The print signs with their strings, in the order of the strings' numbers. (A static cannot call `u32::from`.)
+static SIGNS: [Listed<'static>; 50] = [
+    Listed {
+        code: ';' as u32,
+        string: &[6],
+    },
+    Listed {
+        code: ':' as u32,
+        string: &[18],
+    },
+    Listed {
+        code: '!' as u32,
+        string: &[22],
+    },
+    Listed {
+        code: '?' as u32,
+        string: &[38],
+    },
+    Listed {
+        code: '\'' as u32,
+        string: &[4],
+    },
+    Listed {
+        code: '-' as u32,
+        string: &[36],
+    },
+    Listed {
+        code: '(' as u32,
+        string: &[16, 35],
+    },
+    Listed {
+        code: ')' as u32,
+        string: &[16, 28],
+    },
+    Listed {
+        code: '[' as u32,
+        string: &[40, 35],
+    },
+    Listed {
+        code: ']' as u32,
+        string: &[40, 28],
+    },
+    Listed {
+        code: '{' as u32,
+        string: &[56, 35],
+    },
+    Listed {
+        code: '}' as u32,
+        string: &[56, 28],
+    },
+    Listed {
+        code: '<' as u32,
+        string: &[8, 35],
+    },
+    Listed {
+        code: '>' as u32,
+        string: &[8, 28],
+    },
+    Listed {
+        code: '/' as u32,
+        string: &[56, 12],
+    },
+    Listed {
+        code: '\\' as u32,
+        string: &[56, 33],
+    },
+    Listed {
+        code: '|' as u32,
+        string: &[56, 51],
+    },
+    Listed {
+        code: '_' as u32,
+        string: &[40, 36],
+    },
+    Listed {
+        code: '\u{2014}' as u32,
+        string: &[32, 36],
+    },
+    Listed {
+        code: '"' as u32,
+        string: &[32, 54],
+    },
+    Listed {
+        code: '“' as u32,
+        string: &[24, 38],
+    },
+    Listed {
+        code: '”' as u32,
+        string: &[24, 52],
+    },
+    Listed {
+        code: '‘' as u32,
+        string: &[32, 38],
+    },
+    Listed {
+        code: '’' as u32,
+        string: &[32, 52],
+    },
+    Listed {
+        code: '«' as u32,
+        string: &[56, 38],
+    },
+    Listed {
+        code: '»' as u32,
+        string: &[56, 52],
+    },
+    Listed {
+        code: '@' as u32,
+        string: &[8, 1],
+    },
+    Listed {
+        code: '&' as u32,
+        string: &[8, 47],
+    },
+    Listed {
+        code: '#' as u32,
+        string: &[56, 57],
+    },
+    Listed {
+        code: '%' as u32,
+        string: &[40, 52],
+    },
+    Listed {
+        code: '*' as u32,
+        string: &[16, 20],
+    },
+    Listed {
+        code: '•' as u32,
+        string: &[56, 50],
+    },
+    Listed {
+        code: '~' as u32,
+        string: &[8, 20],
+    },
+    Listed {
+        code: '^' as u32,
+        string: &[8, 34],
+    },
+    Listed {
+        code: '+' as u32,
+        string: &[16, 22],
+    },
+    Listed {
+        code: '\u{2212}' as u32,
+        string: &[16, 36],
+    },
+    Listed {
+        code: '×' as u32,
+        string: &[16, 38],
+    },
+    Listed {
+        code: '÷' as u32,
+        string: &[16, 12],
+    },
+    Listed {
+        code: '=' as u32,
+        string: &[16, 54],
+    },
+    Listed {
+        code: '°' as u32,
+        string: &[24, 26],
+    },
+    Listed {
+        code: '$' as u32,
+        string: &[8, 14],
+    },
+    Listed {
+        code: '£' as u32,
+        string: &[8, 7],
+    },
+    Listed {
+        code: '€' as u32,
+        string: &[8, 17],
+    },
+    Listed {
+        code: '¥' as u32,
+        string: &[8, 61],
+    },
+    Listed {
+        code: '¢' as u32,
+        string: &[8, 9],
+    },
+    Listed {
+        code: '§' as u32,
+        string: &[24, 14],
+    },
+    Listed {
+        code: '¶' as u32,
+        string: &[24, 15],
+    },
+    Listed {
+        code: '©' as u32,
+        string: &[24, 9],
+    },
+    Listed {
+        code: '®' as u32,
+        string: &[24, 23],
+    },
+    Listed {
+        code: '™' as u32,
+        string: &[24, 30],
+    },
 ];
-
-// Their strings, filled up with blanks, which no string has.
-const STRINGS: [[u8; 3]; 50] = [
-    [6, 0, 0],
-    [18, 0, 0],
-    [22, 0, 0],
-    [38, 0, 0],
-    [4, 0, 0],
-    [36, 0, 0],
-    [16, 35, 0],
-    [16, 28, 0],
-    [40, 35, 0],
-    [40, 28, 0],
-    [56, 35, 0],
-    [56, 28, 0],
-    [8, 35, 0],
-    [8, 28, 0],
-    [56, 12, 0],
-    [56, 33, 0],
-    [56, 51, 0],
-    [40, 36, 0],
-    [32, 36, 0],
-    [32, 54, 0],
-    [24, 38, 0],
-    [24, 52, 0],
-    [32, 38, 0],
-    [32, 52, 0],
-    [56, 38, 0],
-    [56, 52, 0],
-    [8, 1, 0],
-    [8, 47, 0],
-    [56, 57, 0],
-    [40, 52, 0],
-    [16, 20, 0],
-    [56, 50, 0],
-    [8, 20, 0],
-    [8, 34, 0],
-    [16, 22, 0],
-    [16, 36, 0],
-    [16, 38, 0],
-    [16, 12, 0],
-    [16, 54, 0],
-    [24, 26, 0],
-    [8, 14, 0],
-    [8, 7, 0],
-    [8, 17, 0],
-    [8, 61, 0],
-    [8, 9, 0],
-    [24, 14, 0],
-    [24, 15, 0],
-    [24, 9, 0],
-    [24, 23, 0],
-    [24, 30, 0],
-];
-
-// The cells of a row before its first blank.
-fn before_blank(row: &[u8; 3]) -> &[u8]
-    ensures { result.now ≡ before_blank row.now }
-{
-    if row[0] == 0 {
-        &row[0..0]
-    } else if row[1] == 0 {
-        &row[0..1]
-    } else if row[2] == 0 {
-        &row[0..2]
-    } else {
-        row
-    }
-}
-
-// The string of a number below 50.
-fn string_at(number: usize) -> &'static [u8]
-    requires { number < 50 }
-    ensures { result.now ≡ slice_index_or ueb_strings number [] }
-{
-    const ROWS: &[[u8; 3]] = &STRINGS;
-    before_blank(&ROWS[number])
-}
 
 #[derive(Clone, Copy)]
 pub struct Ueb;
@@ -158,31 +281,25 @@ pub struct Ueb;
 impl Listing for Ueb {
     ghost entries = { λ _. ueb };
 
-    fn count(&self) -> usize {
-        SIGNS.len()
-    }
-
-    fn listed(&self, number: usize) -> Option<Listed<'_>> {
-        if number < SIGNS.len() {
-            Some(Listed {
-                code: SIGNS[number] as u32,
-                string: string_at(number),
-            })
-        } else {
-            None
-        }
+    #[tactic(auto, using(crate::proofs::UebRows::ueb_numbers), unfolding(cells::specs::Cells::characters, crate::specs::Ueb::ueb))]
+    fn signs(&self) -> &[Listed<'_>]
+        ensures signs { map entry_of result.now ≡ ueb }
+        ensures numbers { UebNumbers }
+    {
+        &SIGNS
     }
 }
 
 impl SignTable for Ueb {
     ghost pairs = { λ _. ueb };
 
-    ghost lawful = { λ t. ueb_lawful };
+    ghost lawful = { unfold characters kind ueb in λ t. lawful_true ueb refl };
 
     fn string_of(&self, code: u32) -> Option<&[u8]> {
+        // A sign is found by its character alone, with no look at the list.
         let sign = char::from_u32(code)?;
         let number = string_number(sign)?;
-        Some(string_at(number))
+        Some(self.listed(number)?.string)
     }
 
     fn look_up(&self, cells: &[u8]) -> Match {

@@ -1,15 +1,19 @@
-use Rattle.std.proofs.Common.{◌≡◌, ◌+◌, ◌-◌, ◌<◌, sym, ap, ◌∙◌, inl, inr, ⊎_elim, arith}
+use Rattle.std.proofs.Common.{sym, ap, ◌∙◌, inl, arith}
+use Rattle.std.specs.List.{slice_get}
 use Rattle.cells.specs.Cells.{characters, cell_of}
-use Rattle.cells.proofs.BrailleAscii.{inverse, cell_at, no_cell, bijection}
+use Rattle.cells.proofs.BrailleAscii.{inverse, cell_in_table, no_cell, bijection}
+use Rattle.cells.proofs.Items.{item_copied}
 use Rattle.cells.proofs.ascii.cell_of.Goals as goal
 
-pub returns-then-byte-lt32 : goal.returns-then-byte-lt32
-returns-then-byte-lt32 c =
-    record { value = sym (no_cell c.args.byte (⊎_elim (λ low. inl (omega arith)) (λ high. inr (omega (arith, high.1))) c.then-byte-lt32.either)); bijection = bijection }
+pub returns-in_err-place : goal.returns-in_err-place
+returns-in_err-place c = record { value = c.from_residual.ensures ∙ sym (no_cell c.args.byte (inl (omega (arith, c.in_err-place.ensures)))); bijection = bijection }
 
 pub returns : goal.returns
 unfolding characters inverse cell_of
 returns c =
-    let k : c.args.byte - 32 < 64 = omega arith in
-    let same : c.args.byte - 32 + 32 ≡ c.args.byte = omega arith in
-    record { value = sym (ap cell_of (sym same) ∙ cell_at (c.args.byte - 32) k); bijection = bijection }
+    record {
+      value = c.copied.ensures ∙ item_copied inverse _ _ c.get.ensures.lookup
+          ∙ ap (slice_get inverse) (c.from.ensures ∙ c.in_ok-place.ensures.1)
+          ∙ cell_in_table c.args.byte c.in_ok-place.ensures.0;
+      bijection = bijection;
+    }

@@ -1,12 +1,18 @@
-use Rattle.std.proofs.Common.{sym, ap, ◌∙◌, arith}
-use Rattle.std.proofs.lemmas.List.{take_rest, get_or_read}
-use Rattle.console.specs.HouseWords.{hexadecimal}
-use Rattle.console.proofs.HouseCodes.{named_by_digits}
+use Rattle.std.proofs.Common.{rules, sym, ◌∙◌, arith}
+use Rattle.console.proofs.HouseCodes.{one_character, names_none, after_prefix, plus_first, number_read}
 use Rattle.console.proofs.house.code_named.Goals as goal
+
+pub returns-in-Ok : goal.returns-in-Ok
+returns-in-Ok c = grind (arith, one_character c.args.word.now c.in-Ok.character c.utf8.word)
+
+pub returns-in_err-digits : goal.returns-in_err-digits
+returns-in_err-digits c = grind (arith, names_none c.args.word.now c.utf8.word c.in_default.ensures.value c.in_err-digits.ensures.cases)
+
+pub returns-then-starts_with : goal.returns-then-starts_with
+returns-then-starts_with c = grind (arith, plus_first c.in_ok-digits.digits.now, after_prefix c.args.word.now c.in_ok-digits.digits.now c.utf8.word c.in_ok-digits.ensures.cases)
 
 pub returns : goal.returns
 returns c =
-    let w = c.args.word.now in
-    let u = sym (get_or_read w 0 c.index-word-0-2.result (omega arith) c.index-word-0-2.is 0) ∙ c.if-word-ne85.false in
-    let plus = sym (get_or_read w 1 c.index-word-1.result (omega arith) c.index-word-1.is 0) ∙ c.if-word-ne43.false in
-    c.hexadecimal.ensures ∙ ap (hexadecimal 0) (take_rest w 2) ∙ sym (named_by_digits w c.if-word-lt3.false u plus)
+    let digits = c.in_ok-digits.digits.now in
+    let after = after_prefix c.args.word.now digits c.utf8.word c.in_ok-digits.ensures.cases in
+    c.ok.ensures.value ∙ number_read digits c.from_str_radix.result after.1 (search rules) (search rules) ∙ sym after.0

@@ -1,25 +1,20 @@
-use Rattle.std.proofs.Common.{◌<◌, length, sym, ap, ◌∙◌, arith}
-use Rattle.std.proofs.lemmas.List.{take_all}
+use Rattle.std.proofs.Common.{◌≡◌, rules, [], ◌∷◌, map, ap, ◌∙◌, Bor, sym}
+use Rattle.std.proofs.lemmas.List.Folds.{fold-map}
 use Rattle.signs.specs.Listings.{entry_of}
 use Rattle.signs.specs.Tables.{look_up, or_match}
-use Rattle.signs.proofs.Tables.{look_up_more, entry_there}
+use Rattle.signs.specs.declared.listing.Listed.{Listed}
+use Rattle.signs.specs.declared.table.Match.{Match}
+use Rattle.signs.specs.declared.table.Match.TheVariants.{Neither}
+use Rattle.signs.proofs.Tables.{look_up_from}
 use Rattle.signs.proofs.listing.look_up.Goals as goal
-use Rattle.signs.proofs.listing.look_up.Goals.{in-Some, in_default}
-
-pub loop-number-preserved : goal.loop-number-preserved
-loop-number-preserved g c =
-    let es = g.L.Listing.entries c.args.listing.now in
-    let cells = c.args.cells.now in
-    let n = c.loop-number.number in
-    let h : n < length es = omega (arith, c.count-number-end.ensures) in
-    elim c.match-listed.branch [
-      | in-Some w ↦
-          w.found-is ∙ w.or-found.ensures ∙ (λ i. or_match (c.loop-number.invariant i) (w.look_up.ensures i))
-          ∙ sym (look_up_more es n (entry_of w.in-Some.listed) cells h w.in-Some.ensures)
-      | in_default w ↦ absurd (entry_there es n h w.in_default.ensures)
-    ]
 
 pub returns : goal.returns
 returns g c =
-    let es = g.L.Listing.entries c.args.listing.now in
-    c.loop-number.invariant ∙ ap (λ t. look_up t c.args.cells.now) (take_all c.loop-number.number es (omega (arith, c.count-number-end.ensures)))
+    let cells = c.args.cells.now in
+    let p = c.fold.ensures.runs in
+    let items : map (λ (sign : Bor Listed). sign.now) p.0.items ≡ c.signs.result.now = (c.iter.ensures.runs p.0 p.0.seen).4 p.2 ∙ ap (λ s. s.rest.now) p.1 ∙ c.iter.ensures.rest in
+    p.3 (λ (found : Match) (sign : Bor Listed). or_match found (look_up (entry_of sign.now ∷ []) cells)) (λ b x v f' k. search rules)
+    ∙ sym (fold-map (λ (found : Match) (sign : Listed). or_match found (look_up (entry_of sign ∷ []) cells)) (λ (sign : Bor Listed). sign.now) Neither p.0.items)
+    ∙ look_up_from (map (λ (sign : Bor Listed). sign.now) p.0.items) cells Neither
+    ∙ ap (λ signs. look_up (map entry_of signs) cells) items
+    ∙ ap (λ table. look_up table cells) c.signs.ensures

@@ -1,33 +1,18 @@
-use Rattle.std.proofs.Common.{◌<◌, length, sym, ◌∙◌, arith}
-use Rattle.std.proofs.lemmas.List.{at_drop_all}
-use Rattle.std.proofs.lemmas.Bool.{cond-true, cond-false, eq-eqb, ne_eqb}
-use Rattle.signs.specs.Listings.{entry_of}
+use Rattle.std.proofs.Common.{◌≡◌, rules, tests, arith, ◌==◌, ap}
+use Rattle.std.specs.Option.{option_copied, option_map}
+use Rattle.std.specs.List.{find}
+use Rattle.std.proofs.lemmas.Iterator.{YieldsList-from_slice}
+use Rattle.std.proofs.lemmas.Iterator.Search.{find_from_yields_List}
 use Rattle.signs.specs.Tables.{string_of}
-use Rattle.signs.proofs.Tables.{string_of_more, entry_there}
+use Rattle.signs.specs.declared.listing.Listed.{Listed}
+use Rattle.signs.proofs.Tables.{string_found}
 use Rattle.signs.proofs.listing.string_of.Goals as goal
-use Rattle.signs.proofs.listing.string_of.Goals.{in-Some+else-listed-code, in_default}
-
-pub returns-then-listed-code : goal.returns-then-listed-code
-returns-then-listed-code g c =
-    let es = g.L.Listing.entries c.args.listing.now in
-    let n = c.loop-number.number in
-    let h : n < length es = omega (arith, c.count-number-end.ensures) in
-    sym (sym c.loop-number.invariant ∙ string_of_more es n (entry_of c.in-Some.listed) c.args.code h c.in-Some.ensures
-    ∙ cond-true _ _ _ (eq-eqb _ _ (sym c.if-listed-code.true)))
-
-pub loop-number-preserved : goal.loop-number-preserved
-loop-number-preserved g c =
-    let es = g.L.Listing.entries c.args.listing.now in
-    let n = c.loop-number.number in
-    let h : n < length es = omega (arith, c.count-number-end.ensures) in
-    elim c.match-listed.branch [
-      | in-Some+else-listed-code w ↦
-          sym (sym c.loop-number.invariant ∙ string_of_more es n (entry_of w.in-Some.listed) c.args.code h w.in-Some.ensures
-          ∙ cond-false _ _ _ (ne_eqb _ _ (λ e. w.if-listed-code.false (sym e))))
-      | in_default w ↦ absurd (entry_there es n h w.in_default.ensures)
-    ]
 
 pub returns : goal.returns
 returns g c =
-    let es = g.L.Listing.entries c.args.listing.now in
-    sym (sym c.loop-number.invariant ∙ at_drop_all (λ t. string_of t c.args.code) es c.loop-number.number (omega (arith, c.count-number-end.ensures)))
+    let code = c.args.code in
+    let signs = c.signs.result.now in
+    let found : option_copied c.find.result ≡ find (λ (sign : Listed). sign.code == code) signs =
+    find_from_yields_List (λ (sign : Listed). sign.code == code) _ _ c.find.result c.find.ensures.ran (YieldsList-from_slice signs cc) (λ x b q k. search (rules, tests)) in
+    let string : option_copied c.map.result ≡ option_map (λ (sign : Listed). sign.string.now) (option_copied c.find.result) = search rules in
+    grind (arith, string, ap (option_map (λ (sign : Listed). sign.string.now)) found, string_found signs code, ap (λ table. string_of table code) c.signs.ensures)

@@ -1,23 +1,22 @@
-use Rattle.std.proofs.Common.{take, is_ok, sym, ap, ◌∙◌}
-use Rattle.std.proofs.lemmas.List.{take_all}
+use Rattle.std.proofs.Common.{◌≡◌, ◌++◌, map, is_ok, subst, sym, ap, ◌∙◌}
+use Rattle.std.proofs.lemmas.Bool.{cond-true, cond-false}
+use Rattle.signs.specs.Laws.{Lawful}
+use Rattle.signs.specs.Listings.{entry_of}
 use Rattle.tables.specs.House.{laid}
-use Rattle.signs.proofs.Apart.{told_apart}
-use Rattle.tables.specs.Houses.{checked_few, unlaid}
+use Rattle.tables.proofs.Houses.{laid_lawful}
 use Rattle.tables.proofs.house.HouseSigns.lay.Goals as goal
-use Rattle.tables.proofs.house.HouseSigns.lay.Goals.{then-is_ok, else-is_ok}
+use Rattle.tables.proofs.house.HouseSigns.lay.Goals.{in-Ok, in-Err}
 
-pub returns : goal.returns
-returns g c =
+pub invariant_of-result : goal.invariant_of-result
+invariant_of-result g c =
     let below = g.T.SignTable.pairs c.args.below in
     let codes = c.args.codes.now in
-    record {
-      laid = elim c.if-is_ok.branch [
-        | then-is_ok w ↦
-            let ok = ap is_ok (sym c.check_house.ensures.answer) ∙ sym c.is_ok.ensures.value ∙ w.if-is_ok.true in
-            ap (λ h. laid below (take h.count h.codes)) w.codes-is ∙ ap (λ t. laid below t) (w.of-codes.ensures ∙ take_all 5 codes (checked_few below codes ok))
-        | else-is_ok w ↦
-            let no = ap is_ok (sym c.check_house.ensures.answer) ∙ sym c.is_ok.ensures.value ∙ w.if-is_ok.false in
-            ap (λ h. laid below (take h.count h.codes)) w.codes-is ∙ ap (λ t. laid below t) w.of-codes-else-is_ok.ensures ∙ sym (unlaid below codes no)
-      ];
-      told_apart = told_apart;
-    }
+    let answer = ap is_ok (sym c.check_house.ensures.answer) in
+    let pairs : map entry_of c.match-check_house.signs.items ++ below ≡ laid below codes =
+    elim c.match-check_house.branch [
+      | in-Ok w ↦
+          ap (λ signs. map entry_of signs.items ++ below) w.signs-is ∙ ap (λ table. table ++ below) w.house_signs-signs.ensures ∙ sym (cond-true _ _ _ (answer ∙ ap is_ok w.in-Ok.is))
+      | in-Err w ↦
+          ap (λ signs. map entry_of signs.items ++ below) w.signs-is ∙ ap (λ items. map entry_of items ++ below) w.new-signs.ensures ∙ sym (cond-false _ _ _ (answer ∙ ap is_ok w.in-Err.is))
+    ] in
+    record { lawful = subst Lawful (sym pairs) (laid_lawful below codes (g.met.T.SignTable.lawful c.args.below)) }
