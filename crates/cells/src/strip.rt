@@ -6,8 +6,8 @@ ghost use Rattle.cells.specs.Pressing.{takes};
 ghost use Rattle.cells.specs.declared.strip.Place.{Place};
 ghost use Rattle.cells.specs.declared.strip.Place.TheVariants.{Cell};
 
-// What stands at one place of a strip. It is no Option, since `at` answers an Option of it: past the end there is not even
-// a spoilt place.
+// What stands at one place of a strip. It is no Option, since `at` answers an Option of it: past the end there is not
+// even a spoilt place.
 #[derive(Clone, Copy, PartialEq, Eq, Debug)]
 pub enum Place {
     Cell(u8),
@@ -64,10 +64,9 @@ pub trait Embosser: Strip {
     fn free(&self) -> usize
         ensures { result ≡ room self.now };
 
-    // Presses one cell, or says no and moves nothing. A bool says all: a number that is no cell and a full embosser are refused
-    // alike.
-    // Its last three facts stand at every call that presses: they speak of members of two traits, before and after, and
-    // one definition of them would take all of these one by one.
+    // Presses one cell, or says no and moves nothing. A bool says all: a number that is no cell and a full embosser are
+    // refused alike. (The last three facts stand at every call that presses. One definition of them would take six
+    // arguments: they speak of three members of two traits, before and after.)
     fn press(&mut self, cell: u8) -> bool
         ensures answer { result ≡ takes (room self.old) cell }
         ensures places { Self.Strip.places self.new ≡ (if result then Self.Strip.places self.old ++ Cell cell ∷ [] else Self.Strip.places self.old) }

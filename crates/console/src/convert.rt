@@ -49,7 +49,7 @@ pub fn convert<'a>(
 ) -> Result<&'a [u8], CopyRefusal>
     ensures { bytes_told result ≡ embossed to (length memory.old) (carrier_places from bytes.now) }
 {
-    // A line for each carrier here too.
+    // A line for each carrier, since its code is a type.
     match from {
         Carrier::Ascii => emboss(&AsciiStrip::new(bytes), to, memory),
         Carrier::Unicode => emboss(&UnicodeStrip::new(bytes), to, memory),

@@ -75,7 +75,7 @@ enum Flag {
     House,
 }
 
-// And so here.
+// A table of its own, as for verbs.
 impl FromStr for Flag {
     type Err = UsageError;
 

@@ -1,7 +1,6 @@
-use Rattle.std.proofs.Common.{◌≡◌, true, is_some, None}
+use Rattle.std.proofs.Common.{◌≡◌, true, is_some, None, rules}
 use Rattle.std.specs.List.{slice_get}
 use Rattle.std.proofs.lemmas.Iterator.{first_from_Range}
-use Rattle.std.proofs.Common.{rules}
 use borrow.Author.Tests.{tests}
 use Rattle.cells.specs.Places.{cell_in}
 use Rattle.cells.proofs.Gaps.{gap_from}

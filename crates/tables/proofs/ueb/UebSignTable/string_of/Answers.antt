@@ -6,7 +6,7 @@ use Rattle.cells.specs.Lists.{index_of}
 use Rattle.signs.specs.Tables.{Entry}
 use Rattle.tables.specs.Ueb.{ueb, ueb_codes}
 use Rattle.std.proofs.lemmas.Bool.{cases_Bool}
-use Rattle.tables.proofs.UebRows.{ueb_string, no_ueb_sign}
+use Rattle.tables.proofs.UebRows.{by_entry, no_ueb_sign}
 use Rattle.tables.proofs.ueb.UebSignTable.string_of.Goals as goal
 
 pub returns-in_err-sign : goal.returns-in_err-sign
@@ -15,7 +15,7 @@ returns-in_err-sign c =
     ap option_copied c.from_residual.ensures ∙ sym (no_ueb_sign c.args.code none)
 
 pub returns-in_err-number : goal.returns-in_err-number
-returns-in_err-number c = let h = ueb_string c.args.code in grind arith
+returns-in_err-number c = let h = by_entry c.args.code in grind arith
 
 pub returns-in_err-listed : goal.returns-in_err-listed
 returns-in_err-listed c =
@@ -23,11 +23,11 @@ returns-in_err-listed c =
     ap option_copied c.from_residual-in_err-listed.ensures
     ∙ ap (option_map (λ (e : Entry). e.1)) c.in_err-listed.ensures
     ∙ ap (option_and_then (λ n. option_map (λ (e : Entry). e.1) (slice_get ueb n))) number
-    ∙ sym (ueb_string c.args.code)
+    ∙ sym (by_entry c.args.code)
 
 pub returns : goal.returns
 returns c =
     let number = c.in_ok-number.ensures ∙ ap (λ code. index_of code 0 ueb_codes) c.in_ok-sign.ensures.value.1 in
     ap (option_map (λ (e : Entry). e.1)) c.in_ok-listed.ensures
     ∙ ap (option_and_then (λ n. option_map (λ (e : Entry). e.1) (slice_get ueb n))) number
-    ∙ sym (ueb_string c.args.code)
+    ∙ sym (by_entry c.args.code)
