@@ -1,10 +1,9 @@
 -- Memory with one group more at the front that is pressed.
-use Rattle.std.proofs.Common.{◌≡◌, ℕ, ◌+◌, ◌-◌, ◌*◌, ◌/◌, ◌≤◌, true, cond, List, [], ◌∷◌, ◌++◌, length, take, drop, Some, None, Option, sym, ap, ◌∙◌, length-append, mul-add, mul-one, arith}
-use borrow.Rule.Slice.PartMut.{put_mid, same_len_mid}
-use Rattle.std.proofs.lemmas.List.{length-drop, length-take-le, drop-drop}
-use Rattle.std.proofs.lemmas.Slice.{take-put_mid, drop-put_mid}
-use Rattle.std.proofs.Math.Nat.{div-eq-sub-div}
-use Rattle.std.proofs.lemmas.Bool.{ltb-true}
+use Rattle.std.proofs.Common.{◌≡◌, ℕ, ◌+◌, ◌-◌, ◌*◌, ◌/◌, ◌<◌, ◌≤◌, Bool, true, false, cond, ◌&&◌, leb, ltb, List, [], ◌∷◌, ◌++◌, length, drop, Some, None, Option, sym, ap, ◌∙◌, inl, inr, length-append, mul-add, mul-one, arith}
+use Rattle.std.proofs.lemmas.List.{length-drop}
+use Rattle.std.proofs.Math.Nat.{div-eq-sub-div, div-eq_of_lt}
+use Rattle.std.proofs.lemmas.Bool.{cases_lt, ltb-true, leb-true}
+use Rattle.std.proofs.lemmas.Bool.Decides.{nat_tests}
 use Rattle.std.proofs.lemmas.Option.{cond_some}
 use Rattle.cells.specs.Cells.{is_cell}
 use Rattle.cells.specs.Places.{has_cell, all_cells}
@@ -13,53 +12,54 @@ use Rattle.cells.specs.declared.strip.Place.TheVariants.{Cell}
 use Rattle.carriers.specs.Codes.{CodeLaws}
 
 -- one cell more behind cells
-all_cells_more : (ps : List Place) (p : Place) → all_cells ps ≡ true → has_cell p ≡ true → all_cells (ps ++ p ∷ []) ≡ true
+pub all_cells_more : (ps : List Place) (p : Place) → all_cells ps ≡ true → has_cell p ≡ true → all_cells (ps ++ p ∷ []) ≡ true
 all_cells_more [] p t h = grind arith
 all_cells_more (q ∷ ps) p t h = grind (arith, all_cells_more ps p)
 
--- a group is written behind what is pressed
 module _ {width : ℕ} {places : List ℕ → List Place} {first : List ℕ → Option (Place × List ℕ)} {bytes : Place → List ℕ} (laws : CodeLaws width places first bytes)
-    (memory : List ℕ) (end cell : ℕ) (group written : List ℕ) (some : Some group ≡ cond (is_cell cell) (Some (bytes (Cell cell))) None) (copied : written ≡ group)
-    (within : end ≤ length memory) (enough : width ≤ length memory - end) where
-  abbrev pub after : List ℕ
-  after = put_mid end (end + width - end) memory written
-
-  one : end + width - end ≡ width
-  one = omega arith
-
+    (cell : ℕ) (group : List ℕ) (some : Some group ≡ cond (is_cell cell) (Some (bytes (Cell cell))) None) where
   low : is_cell cell ≡ true
   low = (cond_some (is_cell cell) (bytes (Cell cell)) group (sym some)).0
 
-  same : written ≡ bytes (Cell cell)
-  same = copied ∙ sym (cond_some (is_cell cell) (bytes (Cell cell)) group (sym some)).1
+  same : group ≡ bytes (Cell cell)
+  same = sym (cond_some (is_cell cell) (bytes (Cell cell)) group (sym some)).1
 
-  sized : length written ≡ width
+  sized : length group ≡ width
   sized = ap length same ∙ laws.group cell (ltb-true cell 64 low)
 
-  pub fits : end + width ≤ length after
-  fits =
-      let kept : length after ≡ length memory = same_len_mid end (end + width - end) memory written (sized ∙ sym (length-take-le (end + width - end) (drop end memory) (omega (arith, one, length-drop end memory)) ∙ one)) in
-      omega (arith, kept)
+  -- a group is taken where a cell is free
+  pub takes_group : (r : Bool) (unused : List ℕ) → r ≡ leb (length group) (length unused) → r ≡ (is_cell cell && ltb 0 (length unused / width))
+  takes_group r unused e =
+      elim (cases_lt (length unused) width) [
+        | inl less ↦ let none = div-eq_of_lt less in grind (arith, nat_tests, low, sized)
+        | inr enough ↦ let step = div-eq-sub-div {m = width} {n = length unused} laws.some_width enough in grind (arith, nat_tests, low, sized)
+      ]
 
-  pub behind : drop (end + width) after ≡ drop width (drop end memory)
-  behind = drop-put_mid end (end + width - end) memory written (end + width) (omega (arith, one)) (omega arith) (sized ∙ sym one) ∙ sym (drop-drop width end memory)
+  -- and then one cell less is free
+  pub room_less : (r : Bool) (unused now : List ℕ) → r ≡ leb (length group) (length unused) → now ≡ cond r (drop (length group) unused) unused →
+      length now / width ≡ cond r (length unused / width - 1) (length unused / width)
+  room_less true unused now e after =
+      let enough : width ≤ length unused = omega (arith, sized, leb-true (length group) (length unused) (sym e)) in
+      let step = div-eq-sub-div {m = width} {n = length unused} laws.some_width enough in
+      let less : length (drop (length group) unused) ≡ length unused - width = omega (arith, length-drop (length group) unused, sized) in
+      ap (λ t. length t / width) after ∙ ap (λ n. n / width) less ∙ omega (arith, step)
+  room_less false unused now e after = ap (λ t. length t / width) after
 
-  pub room_less : length (drop (end + width) after) / width ≡ length (drop end memory) / width - 1
-  room_less =
-      let step = div-eq-sub-div {m = width} {n = length (drop end memory)} laws.some_width (omega (arith, length-drop end memory)) in
-      ap (λ t. length t / width) behind ∙ ap (λ n. n / width) (length-drop width (drop end memory)) ∙ omega (arith, step)
+  module _ (pressed : List ℕ) (whole : width * length (places pressed) ≡ length pressed) where
+    place_more : places (pressed ++ group) ≡ places pressed ++ Cell cell ∷ []
+    place_more = ap (λ t. places (pressed ++ t)) same ∙ laws.more pressed cell (ltb-true cell 64 low) (sym whole)
 
-  module _ (whole : width * length (places (take end memory)) ≡ end) where
-    pub place_more : places (take (end + width) after) ≡ places (take end memory) ++ Cell cell ∷ []
-    place_more =
-        ap places (take-put_mid end (end + width - end) memory written (end + width) (omega (arith, sized)) (omega arith) ∙ ap (λ t. take end memory ++ t) same)
-        ∙ laws.more (take end memory) cell (ltb-true cell 64 low) (length-take-le end memory (omega arith) ∙ sym whole)
+    pub places_after : (r : Bool) (now : List ℕ) → now ≡ cond r (pressed ++ group) pressed → places now ≡ cond r (places pressed ++ Cell cell ∷ []) (places pressed)
+    places_after true now e = ap places e ∙ place_more
+    places_after false now e = ap places e
 
-    pub whole_more : width * length (places (take (end + width) after)) ≡ end + width
-    whole_more =
-        let n = length (places (take end memory)) in
-        ap (λ p. width * length p) place_more ∙ ap (λ l. width * l) (length-append (places (take end memory)) (Cell cell ∷ []))
-        ∙ mul-add width n 1 ∙ omega (arith, whole, mul-one width)
+    pub whole_after : (r : Bool) (now : List ℕ) → now ≡ cond r (pressed ++ group) pressed → width * length (places now) ≡ length now
+    whole_after true now e =
+        rw e
+        (ap (λ p. width * length p) place_more ∙ ap (λ l. width * l) (length-append (places pressed) (Cell cell ∷ []))
+        ∙ mul-add width (length (places pressed)) 1 ∙ omega (arith, whole, mul-one width, sized, length-append pressed group))
+    whole_after false now e = rw e whole
 
-    pub pressed_more : all_cells (places (take end memory)) ≡ true → all_cells (places (take (end + width) after)) ≡ true
-    pressed_more pressed = ap all_cells place_more ∙ all_cells_more (places (take end memory)) (Cell cell) pressed low
+    pub cells_after : all_cells (places pressed) ≡ true → (r : Bool) (now : List ℕ) → now ≡ cond r (pressed ++ group) pressed → all_cells (places now) ≡ true
+    cells_after clean true now e = rw e (ap all_cells place_more ∙ all_cells_more (places pressed) (Cell cell) clean low)
+    cells_after clean false now e = rw e clean

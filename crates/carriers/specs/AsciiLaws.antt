@@ -13,14 +13,14 @@ use Rattle.carriers.specs.Carriers.{place_of, ascii_place, ascii_places, ascii_b
 use Rattle.carriers.specs.Codes.{CodeLaws}
 
 -- a byte that is no spoilt place is the byte of its cell
-byte_back : (byte : ℕ) → has_cell (ascii_place byte) ≡ true → ascii_bytes (ascii_place byte) ≡ byte ∷ []
+pub byte_back : (byte : ℕ) → has_cell (ascii_place byte) ≡ true → ascii_bytes (ascii_place byte) ≡ byte ∷ []
 byte_back byte = of (cell_of byte) refl
   where
     of : (o : Option ℕ) → cell_of byte ≡ o → has_cell (place_of o) ≡ true → ascii_bytes (place_of o) ≡ byte ∷ []
     of None e t = let z : ◌≡◌ {A = Bool} false true = t in absurd (false≢true z)
     of (Some cell) e t = ap option_to_list (byte_from_cell cell byte e)
 
-all_bytes_back : (bytes : List ℕ) → all_cells (ascii_places bytes) ≡ true → flat_map ascii_bytes (ascii_places bytes) ≡ bytes
+pub all_bytes_back : (bytes : List ℕ) → all_cells (ascii_places bytes) ≡ true → flat_map ascii_bytes (ascii_places bytes) ≡ bytes
 all_bytes_back [] t = refl
 all_bytes_back (b ∷ bs) t = grind (arith, byte_back b, all_bytes_back bs)
 

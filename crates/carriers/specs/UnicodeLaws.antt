@@ -9,13 +9,13 @@ use Rattle.cells.specs.Places.{has_cell, all_cells}
 use Rattle.cells.specs.declared.strip.Place.{Place}
 use Rattle.cells.specs.declared.strip.Place.TheVariants.{Cell}
 
-length_unicode : (xs : List ℕ) → length (unicode_places xs) ≡ (length xs + 2) / 3
+pub length_unicode : (xs : List ℕ) → length (unicode_places xs) ≡ (length xs + 2) / 3
 length_unicode [] = refl
 length_unicode (x ∷ []) = refl
 length_unicode (x ∷ y ∷ []) = refl
 length_unicode (x ∷ y ∷ z ∷ xs) = omega (arith, length_unicode xs)
 
-nth_unicode : (i : ℕ) (xs : List ℕ) → slice_get (unicode_places xs) i ≡ option_map (λ (g : Place × List ℕ). g.0) (first_group (drop (3 * i) xs))
+pub nth_unicode : (i : ℕ) (xs : List ℕ) → slice_get (unicode_places xs) i ≡ option_map (λ (g : Place × List ℕ). g.0) (first_group (drop (3 * i) xs))
 nth_unicode zero [] = refl
 nth_unicode zero (x ∷ []) = refl
 nth_unicode zero (x ∷ y ∷ []) = refl
@@ -32,7 +32,7 @@ unicode_cell cell h = grind arith
 group_back : (a b c : ℕ) → has_cell (unicode_place a b c) ≡ true → unicode_bytes (unicode_place a b c) ≡ a ∷ b ∷ c ∷ []
 group_back a b c t = grind arith
 
-all_groups_back : (bytes : List ℕ) → all_cells (unicode_places bytes) ≡ true → flat_map unicode_bytes (unicode_places bytes) ≡ bytes
+pub all_groups_back : (bytes : List ℕ) → all_cells (unicode_places bytes) ≡ true → flat_map unicode_bytes (unicode_places bytes) ≡ bytes
 all_groups_back [] t = refl
 all_groups_back (a ∷ []) t = absurd (false≢true t)
 all_groups_back (a ∷ b ∷ []) t = absurd (false≢true t)

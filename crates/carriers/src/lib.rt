@@ -3,6 +3,7 @@
 
 pub mod ascii;
 pub mod code;
+mod memory;
 pub mod strip;
 pub mod tape;
 pub mod unicode;

@@ -9,7 +9,8 @@ use std::marker::PhantomData;
 #[derive(Clone, Copy)]
 pub struct CarrierStrip<'a, C, const WIDTH: usize> {
     pub bytes: &'a [u8],
-    code: PhantomData<C>,
+    // public, since a strip in a constant is written as a literal: a constant's value calls no function
+    pub code: PhantomData<C>,
 }
 
 impl<'a, C: CellCode<WIDTH>, const WIDTH: usize> CarrierStrip<'a, C, WIDTH> {

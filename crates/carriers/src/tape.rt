@@ -1,44 +1,33 @@
 // A carrier pressed, in any code.
-ghost use Rattle.std.specs.Prelude.{◌≡◌, ◌-◌, ◌*◌, ◌/◌, ◌≤◌, true, [], length, take, drop};
+ghost use Rattle.std.specs.Prelude.{◌≡◌, ◌+◌, ◌*◌, ◌/◌, ◌^◌, ◌<◌, true, [], length};
 ghost use Rattle.std.specs.List.{flat_map};
 ghost use Rattle.cells.specs.Places.{all_cells};
 
 use crate::code::CellCode;
+use crate::memory::PressedMemory;
 use crate::strip::CarrierStrip;
 use cells::strip::{Embosser, Place, Strip};
-use std::marker::{Model, PhantomData};
+use std::marker::PhantomData;
 
-// Lent memory, pressed. What it held before is no place, and bytes that are no whole group are never touched. The memory
-// is the caller's, who gets it back parted, so a tape keeps it whole and where the pressed bytes end.
+// Lent memory, pressed. What it held before is no place, and bytes that are no whole group are never touched. Of every tape
+// it is so that no place is spoilt, that its bytes are whole groups, and that its memory is no longer than a slice may be.
 #[derive(Drop)]
 pub struct CarrierTape<'a, C: CellCode<WIDTH>, const WIDTH: usize> {
-    bytes: &'a mut [u8],
-    // behind the last cell pressed
-    end: usize,
+    memory: PressedMemory<'a>,
     code: PhantomData<C>,
-}
-
-impl<'a, C: CellCode<WIDTH>, const WIDTH: usize> Model for CarrierTape<'a, C, WIDTH> {
-    ghost use Rattle.std.specs.Prelude.{◌≡◌, ◌*◌, ◌≤◌, true, length, take, drop};
-    ghost use Rattle.cells.specs.Places.{all_cells};
-    ghost use Rattle.carriers.specs.Tapes.{Memory};
-
-    ghost Value = { Memory };
-
-    ghost view = { λ t. record { pressed = take t.end t.bytes.now; unused = drop t.end t.bytes.now } };
-
-    ghost invariant = { λ t. (t.end ≤ length t.bytes.now) × (WIDTH * length (C.places (take t.end t.bytes.now)) ≡ t.end) × (all_cells (C.places (take t.end t.bytes.now)) ≡ true) };
+    ghost fits: { length memory.pressed + length memory.unused < 2 ^ 63 },
+    ghost whole: { WIDTH * length (C.places memory.pressed) ≡ length memory.pressed },
+    ghost cells: { all_cells (C.places memory.pressed) ≡ true },
 }
 
 impl<'a, C: CellCode<WIDTH>, const WIDTH: usize> CarrierTape<'a, C, WIDTH> {
     // A bare tape.
     pub fn new(bytes: &'a mut [u8]) -> Self
-        ensures memory { result ≡ record { pressed = []; unused = bytes.old } }
-        ensures places { C.places result.pressed ≡ [] }
+        ensures memory { result.memory ≡ record { pressed = []; unused = bytes.old } }
+        ensures places { C.places result.memory.pressed ≡ [] }
     {
         CarrierTape {
-            bytes,
-            end: 0,
+            memory: PressedMemory::new(bytes),
             code: PhantomData,
         }
     }
@@ -46,36 +35,27 @@ impl<'a, C: CellCode<WIDTH>, const WIDTH: usize> CarrierTape<'a, C, WIDTH> {
     // Ends the tape, and parts its memory: the bytes of the cells pressed, which read back as these, and the bytes
     // behind them, as they were before.
     pub fn finish(self) -> (&'a mut [u8], &'a mut [u8])
-        ensures pressed { result.0.now ≡ flat_map C.bytes (C.places self.entry.pressed) }
-        ensures reads { C.places result.0.now ≡ C.places self.entry.pressed }
+        ensures pressed { result.0.now ≡ flat_map C.bytes (C.places self.entry.memory.pressed) }
+        ensures reads { C.places result.0.now ≡ C.places self.entry.memory.pressed }
         ensures cells { all_cells (C.places result.0.now) ≡ true }
-        ensures unused { result.1.now ≡ self.entry.unused }
+        ensures unused { result.1.now ≡ self.entry.memory.unused }
     {
-        let CarrierTape {
-            bytes,
-            end,
-            code: _,
-        } = self;
-        bytes.split_at_mut(end)
+        let CarrierTape { memory, code: _ } = self;
+        memory.finish()
     }
 
     // The cells pressed so far.
     fn pressed(&self) -> CarrierStrip<'_, C, WIDTH>
-        ensures bytes { result.bytes.now ≡ self.now.pressed }
-        ensures cells { all_cells (C.places self.now.pressed) ≡ true }
+        ensures { result.bytes.now ≡ self.now.memory.pressed }
     {
-        CarrierStrip::new(&self.bytes[0..self.end])
+        CarrierStrip::new(self.memory.pressed())
     }
 }
 
 impl<'a, C: CellCode<WIDTH>, const WIDTH: usize> Strip for CarrierTape<'a, C, WIDTH> {
-    ghost places = { λ s. C.places s.pressed };
+    ghost places = { λ s. C.places s.memory.pressed };
 
-    // None of the places is spoilt.
-    fn len(&self) -> usize
-        ensures count { result ≡ length (C.places self.now.pressed) }
-        ensures cells { all_cells (C.places self.now.pressed) ≡ true }
-    {
+    fn len(&self) -> usize {
         self.pressed().len()
     }
 
@@ -85,26 +65,20 @@ impl<'a, C: CellCode<WIDTH>, const WIDTH: usize> Strip for CarrierTape<'a, C, WI
 }
 
 impl<'a, C: CellCode<WIDTH>, const WIDTH: usize> Embosser for CarrierTape<'a, C, WIDTH> {
-    ghost room = { λ s. length s.unused / WIDTH };
+    ghost room = { λ s. length s.memory.unused / WIDTH };
 
-    ghost unused = { λ s. s.unused };
+    ghost unused = { λ s. s.memory.unused };
 
     ghost width = { WIDTH };
 
     fn free(&self) -> usize {
-        (self.bytes.len() - self.end) / WIDTH
+        self.memory.room() / WIDTH
     }
 
     fn press(&mut self, cell: u8) -> bool {
         let Some(group) = C::bytes_of(cell) else {
             return false;
         };
-        if self.bytes.len() - self.end < WIDTH {
-            return false;
-        }
-        let end = self.end + WIDTH;
-        self.bytes[self.end..end].copy_from_slice(&group);
-        self.end = end;
-        true
+        self.memory.press(&group)
     }
 }

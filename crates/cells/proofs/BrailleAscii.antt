@@ -1,5 +1,5 @@
 -- Braille ASCII and its inverse.
-use Rattle.std.proofs.Common.{◌≡◌, ℕ, ◌+◌, ◌-◌, ◌<◌, ◌≤◌, Bool, true, ◌⊎◌, List, map, reverse, length, get_or, Some, None, Option, unwrap_or, sym, refl, ap, ◌∙◌, inl, inr, arith}
+use Rattle.std.proofs.Common.{◌≡◌, ℕ, ◌+◌, ◌-◌, ◌%◌, ◌^◌, ◌<◌, ◌≤◌, Bool, true, ◌⊎◌, List, map, reverse, length, get_or, Some, None, Option, unwrap_or, sym, refl, ap, ◌∙◌, inl, inr, arith}
 use Rattle.std.proofs.lemmas.Option.{slice_get-get_or, slice_get_past}
 use Rattle.std.proofs.lemmas.Bool.{cases_lt}
 use Rattle.std.specs.List.{slice_get}
@@ -81,6 +81,17 @@ cell_in_table byte low =
           let l : byte - 32 < length inverse = rw sized h in
           slice_get-get_or inverse (byte - 32) 0 l ∙ sym (cell_at (byte - 32) h) ∙ ap cell_of s
       | inr h ↦ let l : length inverse ≤ byte - 32 = rw sized h in slice_get_past inverse (byte - 32) l ∙ sym (no_cell byte (inr (omega arith)))
+    ]
+
+-- and each byte from which 32 is taken with a wrap
+pub cell_by_wrap : (byte : ℕ) → byte < 256 → slice_get inverse ((byte + (2 ^ 64 - 32)) % 2 ^ 64) ≡ cell_of byte
+cell_by_wrap byte fits =
+    elim (cases_lt byte 32) [
+      | inl h ↦
+          let wrapped : (byte + (2 ^ 64 - 32)) % 2 ^ 64 ≡ byte + (2 ^ 64 - 32) = omega arith in
+          let l : length inverse ≤ byte + (2 ^ 64 - 32) = rw sized (omega arith) in
+          ap (slice_get inverse) wrapped ∙ slice_get_past inverse (byte + (2 ^ 64 - 32)) l ∙ sym (no_cell byte (inl h))
+      | inr low ↦ let place : (byte + (2 ^ 64 - 32)) % 2 ^ 64 ≡ byte - 32 = omega arith in ap (slice_get inverse) place ∙ cell_in_table byte low
     ]
 
 pub bijection : Bijection

@@ -5,26 +5,17 @@ ghost use Rattle.cells.specs.Places.{cell_places};
 use crate::cell_strip::CellStrip;
 use crate::strip::{Embosser, Place, Strip};
 use arrayvec::ArrayVec;
-use std::marker::Model;
 
 #[derive(Drop)]
 pub struct BrailleDisplay {
     cells: ArrayVec<u8, 40>,
-}
-
-// Contracts see the cells pressed so far.
-impl Model for BrailleDisplay {
-    ghost use Rattle.std.specs.Prelude.{ℕ, List};
-
-    ghost Value = { List ℕ };
-
-    ghost view = { λ d. d.cells.items };
+    ghost fits: { length cells.items ≤ 40 },
 }
 
 impl BrailleDisplay {
     // A display with no pins up.
     pub fn new() -> Self
-        ensures { result ≡ [] }
+        ensures { result.cells.items ≡ [] }
     {
         BrailleDisplay {
             cells: ArrayVec::new(),
@@ -32,19 +23,16 @@ impl BrailleDisplay {
     }
 
     fn shown(&self) -> CellStrip<'_>
-        ensures { result.0.now ≡ self.now }
+        ensures { result.0.now ≡ self.now.cells.items }
     {
         CellStrip(self.cells.as_slice())
     }
 }
 
 impl Strip for BrailleDisplay {
-    ghost places = { cell_places };
+    ghost places = { λ d. cell_places d.cells.items };
 
-    fn len(&self) -> usize
-        ensures count { result ≡ length (cell_places self.now) }
-        ensures fits { length self.now ≤ 40 }
-    {
+    fn len(&self) -> usize {
         self.cells.len()
     }
 
@@ -54,7 +42,7 @@ impl Strip for BrailleDisplay {
 }
 
 impl Embosser for BrailleDisplay {
-    ghost room = { λ cells. 40 - length cells };
+    ghost room = { λ d. 40 - length d.cells.items };
 
     fn free(&self) -> usize {
         self.cells.remaining_capacity()

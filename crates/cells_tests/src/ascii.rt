@@ -46,12 +46,18 @@ fn cells_and_bytes(rt: HostRuntime) {
     );
 }
 
+// A tape's calls tell that this sum can't be too large.
+fn total(tape: &AsciiTape<'_>) -> usize {
+    tape.len() + tape.free()
+}
+
 #[test]
 fn no_room_and_no_cell(rt: HostRuntime) {
     let mut memory = [b'~'; 3];
     let mut tape = AsciiTape::new(&mut memory);
     assert!(rt; tape.free() == 3 && !tape.press(64) && !tape.press(255) && tape.len() == 0);
     assert!(rt; tape.press(63) && tape.press(0) && tape.free() == 1 && tape.at(2) == None);
+    assert!(rt; total(&tape) == 3);
     let (pressed, unused) = tape.finish();
     assert!(rt; alike(pressed, b"= ") && alike(unused, b"~"));
     let mut nothing = [0; 0];

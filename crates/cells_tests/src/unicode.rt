@@ -45,12 +45,18 @@ fn cut_off_groups_are_spoilt(rt: HostRuntime) {
     assert!(rt; none.len() == 0 && none.at(0) == None && none.at(usize::MAX) == None);
 }
 
+// A tape's calls tell that this product can't be too large.
+fn free_bytes(tape: &UnicodeTape<'_>) -> usize {
+    3 * tape.free()
+}
+
 // Eleven bytes have three cells free, and the last two are never touched.
 #[test]
 fn odd_bytes_are_no_place(rt: HostRuntime) {
     let mut memory = [b'~'; 11];
     let mut tape = UnicodeTape::new(&mut memory);
     assert!(rt; tape.free() == 3 && !tape.press(64) && !tape.press(255) && tape.len() == 0);
+    assert!(rt; free_bytes(&tape) == 9);
     assert!(rt;
         tape.press(63) && tape.press(0) && tape.press(1) && tape.free() == 0 && !tape.press(1)
     );

@@ -11,12 +11,16 @@ use cells::display::BrailleDisplay;
 use cells::strip::{Embosser, Strip};
 use console::show::Notation;
 use std::io;
+use std::marker::PhantomData;
 
-const LABEL: &[u8] = b"BIN #B,B OR #E;B";
+const LABEL: AsciiStrip<'static> = AsciiStrip {
+    bytes: b"BIN #B,B OR #E;B",
+    code: PhantomData,
+};
 
 pub(crate) fn run(rt: &(impl Print + AllocGlobal)) -> Result<(), Failure> {
     println!(rt; "The label \"bin 2B or 5b\" on a strip of 16 cells:\n")?;
-    show(rt, &AsciiStrip::new(LABEL))?;
+    show(rt, &LABEL)?;
     println!(rt;
         "
 Four cells are indicators: # says that digits follow, a comma that a capital does,
@@ -44,7 +48,7 @@ fn on_carrier<C: CellCode<WIDTH>, const WIDTH: usize>(
 
 fn press<E: Embosser>(rt: &impl Print, name: &str, to: &mut E) -> Result<(), Failure> {
     let free = to.free();
-    let cells = copy_strip(&AsciiStrip::new(LABEL), to)?;
+    let cells = copy_strip(&LABEL, to)?;
     let left = to.free();
     Ok(println!(rt; "{name}\n  pressed    {cells} cells where {free} were free; {left} are left")?)
 }

@@ -4,7 +4,7 @@ use crate::tape::row;
 use cells::cell_strip::CellStrip;
 use cells::strip::Strip;
 use console::show::Notation;
-use signs::listing::Listing;
+use signs::listing::Written;
 use signs::table::SignTable;
 use tables::house::{HouseSigns, check_house};
 use tables::ueb::Ueb;

@@ -1,7 +1,6 @@
 -- Strings that begin others.
-use Rattle.std.proofs.Common.{◌≡◌, ℕ, ◌&&◌, ◌==◌, eqb, List, [], ◌∷◌, refl, ap, arith}
+use Rattle.std.proofs.Common.{◌≡◌, ℕ, ◌&&◌, ◌==◌, eqb, List, [], ◌∷◌, length, refl, ap, arith}
 use Rattle.std.proofs.lemmas.Bool.Decides.{nat_tests}
-use lib.Pointwise.{pointwise}
 use Rattle.std.specs.List.{starts_with}
 use Rattle.signs.specs.Strings.{same, begins}
 
@@ -14,9 +13,9 @@ starts_front [] s = refl
 starts_front (x ∷ p) [] = refl
 starts_front (x ∷ p) (y ∷ s) = ap (λ b. (x == y) && b) (starts_front p s)
 
--- what `==` answers
-pub pointwise_same : (s t : List ℕ) → pointwise eqb s t ≡ same s t
-pointwise_same [] [] = refl
-pointwise_same [] (y ∷ t) = refl
-pointwise_same (x ∷ s) [] = refl
-pointwise_same (x ∷ s) (y ∷ t) = ap (λ b. (x == y) && b) (pointwise_same s t)
+-- a string is the same as cells that begin it and are as many
+pub same_as_long : (s cells : List ℕ) → same s cells ≡ (begins cells s && eqb (length cells) (length s))
+same_as_long [] [] = refl
+same_as_long [] (c ∷ cells) = refl
+same_as_long (x ∷ s) [] = grind (arith, nat_tests)
+same_as_long (x ∷ s) (c ∷ cells) = let rest = same_as_long s cells in rw rest (grind (arith, nat_tests))

@@ -1,14 +1,12 @@
 -- What a table answers, from what its parts answer.
-use Rattle.std.proofs.Common.{◌≡◌, ℕ, Bool, true, false, cond, ◌||◌, eqb, List, [], ◌∷◌, ◌++◌, map, fold, length, Some, None, Option, refl, sym, ap, ◌∙◌}
-use Rattle.std.specs.Option.{option_or, option_map}
-use lib.Pointwise.{pointwise}
-use Rattle.std.specs.List.{find, starts_with}
+use Rattle.std.proofs.Common.{◌≡◌, ℕ, Bool, true, false, cond, ◌&&◌, ◌||◌, eqb, List, [], ◌∷◌, ◌++◌, fold, length, Some, None, Option, option_and_then, ◌+◌, ◌-◌, ◌<◌, ◌≤◌, suc, zero, zero-le, refl, sym, ap, ◌∙◌, arith}
+use Rattle.std.specs.Option.{option_or, option_map, option_to_list, MatchOption}
+use Rattle.std.specs.List.{starts_with, range_with_len, slice_get}
 use Rattle.std.proofs.lemmas.Bool.{both_ways}
-use Rattle.signs.proofs.Strings.{eqb_sym, starts_front, pointwise_same}
-use Rattle.signs.specs.Listings.{entry_of}
+use Rattle.signs.proofs.Strings.{eqb_sym, starts_front, same_as_long}
+use Rattle.signs.specs.Listings.{has_code}
 use Rattle.signs.specs.Strings.{same, begins}
 use Rattle.signs.specs.Tables.{Entry, Table, first_of, string_of, code_of, begin_one, matched, look_up, or_match}
-use Rattle.signs.specs.declared.listing.Listed.{Listed}
 use Rattle.signs.specs.declared.table.Match.{Match}
 use Rattle.signs.specs.declared.table.Match.TheVariants.{Whole, Beginning, Neither}
 
@@ -51,7 +49,7 @@ look_up_append a b (c ∷ cells) =
     (λ i. matched (code_of_append a b (c ∷ cells) i) (begin_one_append a b (c ∷ cells) i))
     ∙ matched_or (code_of a (c ∷ cells)) (code_of b (c ∷ cells)) (begin_one a (c ∷ cells)) (begin_one b (c ∷ cells))
 
--- Lists of signs
+-- Matches, one after the other
 
 or_neither : (m : Match) → or_match m Neither ≡ m
 or_neither (Whole code) = refl
@@ -71,33 +69,42 @@ nothing_listed : (cells : List ℕ) → look_up [] cells ≡ Neither
 nothing_listed [] = refl
 nothing_listed (c ∷ cells) = refl
 
--- one sign after the other, from what was found before
-pub look_up_from : (signs : List Listed) (cells : List ℕ) (found : Match) →
-    fold (λ (m : Match) (sign : Listed). or_match m (look_up (entry_of sign ∷ []) cells)) found signs ≡ or_match found (look_up (map entry_of signs) cells)
-look_up_from [] cells found = sym (ap (or_match found) (nothing_listed cells) ∙ or_neither found)
-look_up_from (sign ∷ signs) cells found =
-    look_up_from signs cells (or_match found (look_up (entry_of sign ∷ []) cells))
-    ∙ or_match_assoc found (look_up (entry_of sign ∷ []) cells) (look_up (map entry_of signs) cells)
-    ∙ ap (or_match found) (sym (look_up_append (entry_of sign ∷ []) (map entry_of signs) cells))
-
--- the string of the sign that has the code
-pub string_found : (signs : List Listed) (code : ℕ) → string_of (map entry_of signs) code ≡ option_map (λ (sign : Listed). sign.string.now) (find (λ (sign : Listed). eqb sign.code code) signs)
-string_found [] code = refl
-string_found (sign ∷ signs) code = rw (eqb_sym code sign.code) (by (eqb sign.code code) (string_found signs code))
-  where
-    by : (b : Bool) → string_of (map entry_of signs) code ≡ option_map (λ (s : Listed). s.string.now) (find (λ (s : Listed). eqb s.code code) signs) →
-        cond b (Some sign.string.now) (string_of (map entry_of signs) code) ≡ option_map (λ (s : Listed). s.string.now) (cond b (Some sign) (find (λ (s : Listed). eqb s.code code) signs))
-    by true rest = refl
-    by false rest = rest
-
 -- A table of one entry
 
-pub look_up_one : (e : Entry) (cells : List ℕ) → eqb (length cells) 0 ≡ false →
-    look_up (e ∷ []) cells ≡ cond (pointwise eqb e.1 cells) (Whole e.0) (cond (starts_with eqb e.1 cells) Beginning Neither)
-look_up_one e [] h = absurd (both_ways true h refl)
-look_up_one e (c ∷ cells) h = rw (pointwise_same e.1 (c ∷ cells), starts_front (c ∷ cells) e.1) (by (same e.1 (c ∷ cells)) (begins (c ∷ cells) e.1))
+pub look_up_begun : (e : Entry) (cells : List ℕ) → eqb (length cells) 0 ≡ false →
+    look_up (e ∷ []) cells ≡ cond (starts_with eqb e.1 cells) (cond (eqb (length cells) (length e.1)) (Whole e.0) Beginning) Neither
+look_up_begun e [] h = absurd (both_ways true h refl)
+look_up_begun e (c ∷ cells) h = rw (same_as_long e.1 (c ∷ cells), starts_front (c ∷ cells) e.1) (by (begins (c ∷ cells) e.1) (eqb (length (c ∷ cells)) (length e.1)))
   where
-    by : (s b : Bool) → matched (cond s (Some e.0) None) (b || false) ≡ cond s (Whole e.0) (cond b Beginning Neither)
-    by true b = refl
-    by false true = refl
-    by false false = refl
+    by : (b l : Bool) → matched (cond (b && l) (Some e.0) None) (b || false) ≡ cond b (cond l (Whole e.0) Beginning) Neither
+    by true true = refl
+    by true false = refl
+    by false l = refl
+
+-- Listings gone through by number
+
+-- what is found at the numbers from a on, where these are the entries' numbers
+pub look_up_numbered : (es : Table) (cells : List ℕ) (at : ℕ → Option Entry) (found : Match) (a : ℕ) → ((k : ℕ) → k < length es → at (a + k) ≡ slice_get es k) →
+    fold (λ (m : Match) (k : ℕ). or_match m (look_up (option_to_list (at k)) cells)) found (range_with_len a (length es)) ≡ or_match found (look_up es cells)
+look_up_numbered [] cells at found a h = sym (ap (or_match found) (nothing_listed cells) ∙ or_neither found)
+look_up_numbered (e ∷ es) cells at found a h =
+    let here : at a ≡ Some e = ap at (omega arith) ∙ h 0 (omega arith) in
+    look_up_numbered es cells at (or_match found (look_up (option_to_list (at a)) cells)) (a + 1) (λ k l. ap at (omega arith) ∙ h (suc k) (omega arith))
+    ∙ or_match_assoc found (look_up (option_to_list (at a)) cells) (look_up es cells)
+    ∙ ap (λ (o : Option Entry). or_match found (or_match (look_up (option_to_list o) cells) (look_up es cells))) here
+    ∙ ap (or_match found) (sym (look_up_append (e ∷ []) es cells))
+
+-- the string of the first entry that has the code
+pub string_numbered : (es : Table) (code end : ℕ) (r : Option ℕ) → end ≡ length es →
+    MatchOption r ((k : ℕ) → 0 ≤ k → k < end → has_code code (slice_get es k) ≡ false)
+    (λ i. (0 ≤ i) × (i < end) × (has_code code (slice_get es i) ≡ true) × ((k : ℕ) → 0 ≤ k → k < i → has_code code (slice_get es k) ≡ false)) →
+    string_of es code ≡ option_map (λ (e : Entry). e.1) (option_and_then (slice_get es) r)
+string_numbered [] code end None l h = refl
+string_numbered [] code end (Some i) l h = absurd (omega (arith, h.1))
+string_numbered (e ∷ es) code end None l h =
+    let no : eqb e.0 code ≡ false = h 0 zero-le (omega arith) in
+    rw (eqb_sym code e.0, no) (string_numbered es code (end - 1) None (omega arith) (λ k z m. h (suc k) zero-le (omega arith)))
+string_numbered (e ∷ es) code end (Some zero) l h = let yes : eqb e.0 code ≡ true = h.2 in rw (eqb_sym code e.0, yes) refl
+string_numbered (e ∷ es) code end (Some (suc i)) l h =
+    let no : eqb e.0 code ≡ false = h.3 0 zero-le (omega arith) in
+    rw (eqb_sym code e.0, no) (string_numbered es code (end - 1) (Some i) (omega arith) (zero-le, omega (arith, h.1), h.2, λ k z m. h.3 (suc k) zero-le (omega arith)))

@@ -1,8 +1,8 @@
-// Tables that are written out as a list of signs.
+// Tables whose signs can be gone through by number.
 ghost use Rattle.std.specs.Prelude.{◌≡◌, [], ◌∷◌, length, map};
 ghost use Rattle.std.specs.List.{slice_get};
-ghost use Rattle.std.specs.Option.{option_copied, option_map};
-ghost use Rattle.signs.specs.Listings.{entry_of};
+ghost use Rattle.std.specs.Option.{option_copied, option_map, option_to_list};
+ghost use Rattle.signs.specs.Listings.{entry_of, has_code};
 ghost use Rattle.signs.specs.Tables.{Table, string_of, look_up};
 
 use crate::table::Match;
@@ -17,49 +17,65 @@ pub struct Listed<'a> {
 
 impl Listed<'_> {
     // What some cells are to this sign's string.
-    #[tactic(auto, using(crate::proofs::Tables::look_up_one))]
+    #[tactic(auto, using(crate::proofs::Tables::look_up_begun))]
     pub fn look_up(self, cells: &[u8]) -> Match
         ensures { result ≡ look_up (entry_of self.entry ∷ []) cells.now }
     {
-        if cells.is_empty() {
+        // The string is gone through once: where the cells begin it, their number tells the rest.
+        if cells.is_empty() || !self.string.starts_with(cells) {
             Match::Neither
-        } else if self.string == cells {
+        } else if cells.len() == self.string.len() {
             Match::Whole(self.code)
-        } else if self.string.starts_with(cells) {
-            Match::Beginning
         } else {
-            Match::Neither
+            Match::Beginning
         }
     }
 }
 
-// A list of signs means the entries of a table, or of a part of one; it owes no laws.
+// A list of signs means the entries of a table, or of a part of one; it owes no laws. It answers by number, so it may
+// compute its signs or own their strings.
 pub trait Listing {
     ghost entries: { Self → Table };
 
-    // Its signs, in order.
-    fn signs(&self) -> &[Listed<'_>]
-        ensures { map entry_of result.now ≡ entries self.now };
-
     // The number of entries.
-    final fn count(&self) -> usize
-        ensures { result ≡ length (entries self.now) }
-    {
-        self.signs().len()
-    }
+    fn count(&self) -> usize
+        ensures { result ≡ length (entries self.now) };
 
-    final fn listed(&self, number: usize) -> Option<Listed<'_>>
-        ensures { option_map entry_of result ≡ slice_get (entries self.now) number }
-    {
-        self.signs().get(number).copied()
-    }
+    fn listed(&self, number: usize) -> Option<Listed<'_>>
+        ensures { option_map entry_of result ≡ slice_get (entries self.now) number };
+}
+
+// A listing that is written out lends its signs, in order.
+pub trait Written: Listing {
+    fn signs(&self) -> &[Listed<'_>]
+        ensures { map entry_of result.now ≡ Self.Listing.entries self.now };
 }
 
 impl<const CAP: usize> Listing for ArrayVec<Listed<'static>, CAP> {
     ghost entries = { λ signs. map entry_of signs.items };
 
+    fn count(&self) -> usize {
+        self.signs().len()
+    }
+
+    fn listed(&self, number: usize) -> Option<Listed<'_>> {
+        self.signs().get(number).copied()
+    }
+}
+
+impl<const CAP: usize> Written for ArrayVec<Listed<'static>, CAP> {
     fn signs(&self) -> &[Listed<'_>] {
         self.as_slice()
+    }
+}
+
+// What some cells are to the string of a number, and nothing past the end.
+fn look_up_at<L: Listing>(listing: &L, number: usize, cells: &[u8]) -> Match
+    ensures { result ≡ look_up (option_to_list (slice_get (L.Listing.entries listing.now) number)) cells.now }
+{
+    match listing.listed(number) {
+        Some(sign) => sign.look_up(cells),
+        None => Match::Neither,
     }
 }
 
@@ -67,16 +83,25 @@ impl<const CAP: usize> Listing for ArrayVec<Listed<'static>, CAP> {
 pub fn look_up<L: Listing>(listing: &L, cells: &[u8]) -> Match
     ensures { result ≡ look_up (L.Listing.entries listing.now) cells.now }
 {
-    listing.signs().iter().fold(Match::Neither, |found, sign| found.or(sign.look_up(cells)))
+    (0..listing.count()).fold(
+        Match::Neither,
+        |found, number| found.or(look_up_at(listing, number, cells)),
+    )
+}
+
+// Whether the sign of a number has the code.
+fn has_code<L: Listing>(listing: &L, number: usize, code: u32) -> bool
+    ensures { result ≡ has_code code (slice_get (L.Listing.entries listing.now) number) }
+{
+    listing.listed(number).is_some_and(|sign| sign.code == code)
 }
 
 // The string of a code, if the listing has it.
 pub fn string_of<L: Listing>(listing: &L, code: u32) -> Option<&[u8]>
     ensures { option_copied result ≡ string_of (L.Listing.entries listing.now) code }
 {
-    listing
-        .signs()
-        .iter()
-        .find(|sign| sign.code == code)
-        .map(|sign| sign.string)
+    match (0..listing.count()).find(|number| has_code(listing, *number, code)) {
+        Some(number) => Some(listing.listed(number)?.string),
+        None => None,
+    }
 }

@@ -4,6 +4,8 @@
 #[cfg(test)]
 mod braille;
 #[cfg(test)]
+mod callers;
+#[cfg(test)]
 mod fixed;
 #[cfg(test)]
 mod house;

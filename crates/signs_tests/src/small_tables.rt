@@ -32,17 +32,24 @@ impl SignTable for NoSigns {
 #[derive(Clone, Copy)]
 pub(crate) struct OneSign;
 
-static COMET: [Listed<'static>; 1] = [Listed {
+const COMET: Listed<'static> = Listed {
     code: 0x2604,
     string: &[56, 60],
-}];
+};
 
 impl Listing for OneSign {
     ghost entries = { λ _. one_sign };
 
+    fn count(&self) -> usize {
+        1
+    }
+
     #[tactic(auto, unfolding(cells::specs::Cells::characters))]
-    fn signs(&self) -> &[Listed<'_>] {
-        &COMET
+    fn listed(&self, number: usize) -> Option<Listed<'_>> {
+        match number {
+            0 => Some(COMET),
+            _ => None,
+        }
     }
 }
 

@@ -1,4 +1,4 @@
 pub mod Clears
-pub mod Houses
+pub mod Checking
 pub mod UebRows
 pub mod Laid

@@ -1,2 +1,3 @@
 pub mod Ueb
 pub mod House
+pub mod Houses

@@ -1,27 +1,15 @@
 // House signs: up to five codes with strings of their own, laid over any sign table.
-ghost use Rattle.std.specs.Prelude.{◌≡◌, ◌++◌, map};
+ghost use Rattle.std.specs.Prelude.{◌≡◌, is_ok};
 ghost use Rattle.signs.specs.Known.{ToldApart};
-ghost use Rattle.signs.proofs.Laws.{Lawful-prop};
-ghost use Rattle.signs.specs.Laws.{Lawful};
-ghost use Rattle.signs.specs.Listings.{entry_of};
 ghost use Rattle.signs.specs.Lists.{times};
-ghost use Rattle.tables.specs.House.{house, is_clear, clash, house_check, refused, house_refused, laid, LaidAnswers};
+ghost use Rattle.tables.specs.House.{is_clear, clash, house_check, refused, house_refused, laid, LaidAnswers};
+ghost use Rattle.tables.specs.Houses.{laid_lawful};
 
 use crate::clash::{Clash, HouseRefusal};
-use arrayvec::ArrayVec;
+use crate::house_codes::{HouseCodes, STRINGS};
 use signs::kind::Kind;
 use signs::listing;
-use signs::listing::Listed;
 use signs::table::{Match, SignTable};
-
-// The strings, by position.
-static STRINGS: [[u8; 3]; 5] = [
-    [8, 60, 57],
-    [24, 60, 57],
-    [56, 60, 57],
-    [16, 60, 57],
-    [40, 60, 57],
-];
 
 // How often a code stands in a list.
 fn times(code: u32, codes: &[u32]) -> usize
@@ -76,26 +64,13 @@ pub fn check_house<T: SignTable>(below: &T, codes: &[u32]) -> Result<(), HouseRe
     Ok(())
 }
 
-// The first five of the codes, each with the string of its position. (`collect` would ask for an allocator and may fail.)
-fn house_signs(codes: &[u32]) -> ArrayVec<Listed<'static>, 5>
-    ensures { map entry_of result.items ≡ house codes.now }
-{
-    let mut signs = ArrayVec::new();
-    for (code, string) in codes.iter().zip(&STRINGS) {
-        signs.push(Listed {
-            code: *code,
-            string,
-        });
-    }
-    signs
-}
-
-// A table with house signs laid over it: the two together obey the laws.
+// A table with house signs laid over it. The laws are owed whatever the codes are. An invariant that they passed their check
+// would need a bound on the struct, and a generic struct could then hold no house signs over house signs. So the check is
+// asked again where a house sign would be answered.
 #[derive(Drop)]
-pub struct HouseSigns<T: SignTable> {
-    signs: ArrayVec<Listed<'static>, 5>,
+pub struct HouseSigns<T> {
+    codes: HouseCodes,
     below: T,
-    ghost lawful: { Lawful (map entry_of signs.items ++ T.pairs below) } by { Lawful-prop (map entry_of signs.items ++ T.pairs below) },
 }
 
 impl<T: SignTable> HouseSigns<T> {
@@ -106,26 +81,44 @@ impl<T: SignTable> HouseSigns<T> {
         ensures answers { LaidAnswers }
         ensures told_apart { ToldApart }
     {
-        let signs = match check_house(&below, codes) {
-            Ok(()) => house_signs(codes),
-            Err(_) => ArrayVec::new(),
+        let codes = match check_house(&below, codes) {
+            Ok(()) => HouseCodes::of(codes),
+            Err(_) => HouseCodes::of(&[]),
         };
-        HouseSigns { signs, below }
+        HouseSigns { codes, below }
+    }
+
+    fn is_laid(&self) -> bool
+        ensures { result ≡ is_ok (house_check (T.pairs self.now.below) self.now.codes.codes.items) }
+    {
+        check_house(&self.below, self.codes.as_slice()).is_ok()
     }
 }
 
 impl<T: SignTable> SignTable for HouseSigns<T> {
-    ghost pairs = { λ h. map entry_of h.signs.items ++ T.pairs h.below };
+    ghost pairs = { λ h. laid (T.pairs h.below) h.codes.codes.items };
 
-    ghost lawful = { λ t. t.lawful };
+    ghost lawful = { λ t. laid_lawful (T.pairs t.below) t.codes.codes.items (T.lawful t.below) };
 
-    #[tactic(auto, using(signs::proofs::Tables::string_of_append))]
     fn string_of(&self, code: u32) -> Option<&[u8]> {
-        listing::string_of(&self.signs, code).or_else(|| self.below.string_of(code))
+        if let Some(string) = listing::string_of(&self.codes, code) {
+            if self.is_laid() {
+                return Some(string);
+            }
+        }
+        self.below.string_of(code)
     }
 
-    #[tactic(auto, using(signs::proofs::Tables::look_up_append))]
     fn look_up(&self, cells: &[u8]) -> Match {
-        listing::look_up(&self.signs, cells).or(self.below.look_up(cells))
+        let found = listing::look_up(&self.codes, cells);
+        let below = self.below.look_up(cells);
+        if found.is_neither() {
+            return below;
+        }
+        if self.is_laid() {
+            found.or(below)
+        } else {
+            below
+        }
     }
 }

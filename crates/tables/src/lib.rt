@@ -3,4 +3,5 @@
 
 pub mod clash;
 pub mod house;
+mod house_codes;
 pub mod ueb;

@@ -9,7 +9,7 @@ ghost use Rattle.signs.proofs.Laws.{lawful_true};
 ghost use Rattle.tables.specs.Ueb.{ueb, ueb_codes, UebNumbers};
 
 use signs::listing;
-use signs::listing::{Listed, Listing};
+use signs::listing::{Listed, Listing, Written};
 use signs::table::{Match, SignTable};
 
 // The number of a print sign's string, by its character alone, so that it is found with no search.
@@ -281,6 +281,17 @@ pub struct Ueb;
 impl Listing for Ueb {
     ghost entries = { λ _. ueb };
 
+    #[tactic(auto, unfolding(crate::specs::Ueb::ueb))]
+    fn count(&self) -> usize {
+        SIGNS.len()
+    }
+
+    fn listed(&self, number: usize) -> Option<Listed<'_>> {
+        self.signs().get(number).copied()
+    }
+}
+
+impl Written for Ueb {
     #[tactic(auto, using(crate::proofs::UebRows::ueb_numbers), unfolding(cells::specs::Cells::characters, crate::specs::Ueb::ueb))]
     fn signs(&self) -> &[Listed<'_>]
         ensures signs { map entry_of result.now ≡ ueb }

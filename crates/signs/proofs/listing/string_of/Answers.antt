@@ -1,18 +1,26 @@
-use Rattle.std.proofs.Common.{◌≡◌, rules, tests, arith, ◌==◌, ap}
-use Rattle.std.specs.Option.{option_copied, option_map}
-use Rattle.std.specs.List.{find}
-use Rattle.std.proofs.lemmas.Iterator.{YieldsList-from_slice}
-use Rattle.std.proofs.lemmas.Iterator.Search.{find_from_yields_List}
-use Rattle.signs.specs.Tables.{string_of}
-use Rattle.signs.specs.declared.listing.Listed.{Listed}
-use Rattle.signs.proofs.Tables.{string_found}
+use Rattle.std.proofs.Common.{◌≡◌, true, false, rules, tests, option_and_then, sym, ap, ◌∙◌}
+use Rattle.std.specs.Option.{option_map}
+use Rattle.std.specs.List.{slice_get}
+use Rattle.std.proofs.lemmas.Iterator.{first_from_Range}
+use Rattle.signs.specs.Listings.{has_code}
+use Rattle.signs.specs.Tables.{Entry}
+use Rattle.signs.proofs.Tables.{string_numbered}
 use Rattle.signs.proofs.listing.string_of.Goals as goal
 
-pub returns : goal.returns
-returns g c =
+pub returns-in-None : goal.returns-in-None
+returns-in-None g c =
+    let es = g.L.Listing.entries c.args.listing.now in
     let code = c.args.code in
-    let signs = c.signs.result.now in
-    let found : option_copied c.find.result ≡ find (λ (sign : Listed). sign.code == code) signs =
-    find_from_yields_List (λ (sign : Listed). sign.code == code) _ _ c.find.result c.find.ensures.ran (YieldsList-from_slice signs cc) (λ x b q k. search (rules, tests)) in
-    let string : option_copied c.map.result ≡ option_map (λ (sign : Listed). sign.string.now) (option_copied c.find.result) = search rules in
-    grind (arith, string, ap (option_map (λ (sign : Listed). sign.string.now)) found, string_found signs code, ap (λ table. string_of table code) c.signs.ensures)
+    let string = string_numbered es code c.count.result c.find.result c.count.ensures
+    (first_from_Range _ _ _ _ (λ i. has_code code (slice_get es i) ≡ true) (λ i. has_code code (slice_get es i) ≡ false) c.find.ensures.ran
+    (λ x q k. search (rules, tests)) (λ x q k. search (rules, tests))) in
+    sym (string ∙ ap (λ r. option_map (λ (e : Entry). e.1) (option_and_then (slice_get es) r)) c.in-None.is)
+
+pub returns-in_ok-listed-in-Some : goal.returns-in_ok-listed-in-Some
+returns-in_ok-listed-in-Some g c =
+    let es = g.L.Listing.entries c.args.listing.now in
+    let code = c.args.code in
+    let string = string_numbered es code c.count.result c.find.result c.count.ensures
+    (first_from_Range _ _ _ _ (λ i. has_code code (slice_get es i) ≡ true) (λ i. has_code code (slice_get es i) ≡ false) c.find.ensures.ran
+    (λ x q k. search (rules, tests)) (λ x q k. search (rules, tests))) in
+    ap (option_map (λ (e : Entry). e.1)) c.in_ok-listed-in-Some.ensures ∙ sym (string ∙ ap (λ r. option_map (λ (e : Entry). e.1) (option_and_then (slice_get es) r)) c.in-Some.is)

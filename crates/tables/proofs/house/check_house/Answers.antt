@@ -2,7 +2,7 @@ use Rattle.std.proofs.Common.{Ok, Err, ap, ◌∙◌, arith}
 use Rattle.std.proofs.lemmas.List.{length_push}
 use Rattle.cells.specs.Cells.{characters}
 use Rattle.tables.specs.declared.clash.HouseRefusal.TheVariants.{ClashAt}
-use Rattle.tables.proofs.Houses.{house_turn, house_end, checked}
+use Rattle.tables.proofs.Checking.{house_turn, house_end, checked}
 use Rattle.tables.proofs.house.check_house.Goals as goal
 
 pub returns-in-Some-clash_of : goal.returns-in-Some-clash_of

@@ -1,20 +1,12 @@
 -- House signs that pass their check leave a lawful table lawful; and the check by number.
-use Rattle.std.proofs.Common.{◌≡◌, ℕ, zero, suc, ◌+◌, ◌<◌, ◌≤◌, Bool, true, false, cond, List, [], ◌∷◌, ◌++◌, All, AllPairs, map, length, get_or, drop, zip, is_some, is_ok, Some, None, Ok, Err, Option, Result, Bor, Iter, ◌==◌, ◌≢◌, nat_lt, refl, sym, ap, ◌∙◌, zero-add, add-one, arith}
+use Rattle.std.specs.Prelude.{◌≡◌, ℕ, zero, suc, ◌+◌, ◌<◌, ◌≤◌, Bool, true, false, cond, List, [], ◌∷◌, ◌++◌, All, AllPairs, map, length, drop, zip, is_some, is_ok, Some, None, Err, Option, Result, ◌==◌, ◌≢◌, nat_lt, slice_index, slice_index_or, refl}
+use Rattle.std.proofs.Common.{get_or, sym, ap, ◌∙◌, add-one, arith}
 use Rattle.std.specs.Option.{option_map}
-use Rattle.std.specs.List.{enumerate_from}
-use Rattle.std.specs.Iterator.{Yields}
-use Rattle.std.specs.Iterator.Adapters.{enumerate_steps}
-use Rattle.std.specs.declared.iter.Enumerate.{Enumerate}
-use Rattle.std.specs.declared.iter.Zip.{Zip}
-use Rattle.std.proofs.lemmas.Fn.{fronts}
-use Rattle.std.proofs.lemmas.Iterator.{YieldsList, YieldsList-from_slice, YieldsList-from_zip, zips}
-use Rattle.std.proofs.lemmas.Iterator.Consumers.{YieldsList-from_enumerate, YieldsList-turn, YieldsList-end}
-use Rattle.std.proofs.lemmas.List.{at_drop_more, at_drop_all}
-use Rattle.std.proofs.lemmas.List.FromFn.{get_or-enumerate_from, length-enumerate_from}
+use Rattle.std.proofs.lemmas.List.{at_drop_more}
 use Rattle.std.proofs.lemmas.List.Elements.{All-nil, All-cons, All-append, All-weaker}
 use Rattle.std.proofs.lemmas.List.Sums.{sum_by-cons}
 use Rattle.std.proofs.lemmas.Slice.Zip.{length-zip, get_or-zip}
-use Rattle.std.proofs.lemmas.Bool.{both_ways, cond_both, cond-false, eq-eqb, eqb-false, leb-false, le-ltb, not-false}
+use Rattle.std.proofs.lemmas.Bool.{both_ways, cond_both, eq-eqb, eqb-false, leb-false, ltb-false, not-false}
 use Rattle.cells.specs.Cells.{characters}
 use Rattle.signs.specs.Laws.{Lawful, LawfulString, lawful_string}
 use Rattle.signs.specs.Lists.{times}
@@ -28,45 +20,6 @@ use Rattle.tables.specs.declared.clash.Clash.{Clash}
 use Rattle.tables.specs.declared.clash.Clash.TheVariants.{NoScalar, Fixed, ListedBelow, StandsTwice, StringTaken}
 use Rattle.tables.specs.declared.clash.HouseRefusal.{HouseRefusal}
 use Rattle.tables.specs.declared.clash.HouseRefusal.TheVariants.{TooMany}
-
--- The check, one code on
-
-abbrev Numbering : Type 0
-Numbering = Enumerate (Zip (Iter ℕ) (Iter (List ℕ)))
-
-abbrev Item : Type 0
-Item = ℕ × (Bor ℕ × Bor (List ℕ))
-
-abbrev sign_of : Item → Entry
-sign_of x = (x.1.0.now, x.1.1.now)
-
--- the codes with their strings and positions, as the program goes through them
-module _ (below : Table) (codes : List ℕ) (start : Numbering) (these : start.iter.a.rest.now ≡ codes) (strings : start.iter.b.rest.now ≡ house_strings) (from_zero : start.count ≡ 0) where
-  numbered : YieldsList (enumerate_steps (zips fronts fronts)) (λ x. (x.0, sign_of x)) start (enumerate_from 0 (house codes))
-  numbered = YieldsList-from_enumerate (YieldsList-from_zip (YieldsList-from_slice codes these) (YieldsList-from_slice house_strings strings)) from_zero
-
-  -- this iteration's code stands at its position, and the check goes on from there
-  pub house_turn : (yielded : List Item) (now next : Numbering) → Yields (enumerate_steps (zips fronts fronts)) start yielded now →
-      (r : Option Item) (x : Item) → r ≡ Some x → enumerate_steps (zips fronts fronts) now r next →
-      (x.0 ≡ length yielded) × (lowest_clash below codes (length yielded) (drop (length yielded) (house codes))
-      ≡ or_clash (clash below codes (sign_of x)) (length yielded) (lowest_clash below codes (length yielded + 1) (drop (length yielded + 1) (house codes))))
-  house_turn yielded now next y r x is steps =
-      let n = length yielded in
-      let turn = YieldsList-turn numbered yielded now y r next x is steps in
-      let k : n < length (house codes) = omega (arith, turn.0, length-enumerate_from 0 (house codes)) in
-      let there = turn.1 ∙ get_or-enumerate_from 0 (house codes) n (x.0, sign_of x) k in (
-        ap (λ p. p.0) there ∙ zero-add n,
-        at_drop_more (lowest_clash below codes n) (house codes) n (sign_of x) k
-            ∙ (λ i. or_clash (clash below codes (sym there i).1) n (lowest_clash below codes (sym (add-one n) i) (drop (n + 1) (house codes)))),
-      )
-
-  -- after the last one nothing has clashed
-  pub house_end : (yielded : List Item) (now next : Numbering) → Yields (enumerate_steps (zips fronts fronts)) start yielded now →
-      (r : Option Item) → r ≡ None → enumerate_steps (zips fronts fronts) now r next →
-      lowest_clash below codes (length yielded) (drop (length yielded) (house codes)) ≡ Ok tt
-  house_end yielded now next y r is steps =
-      let end = YieldsList-end numbered yielded now y r next is steps in
-      at_drop_all (lowest_clash below codes (length yielded)) (house codes) (length yielded) (omega (arith, end.1, length-enumerate_from 0 (house codes)))
 
 -- What does not clash, part by part
 
@@ -139,12 +92,17 @@ module _ (cs : List ℕ) (ss : List (List ℕ)) where
   zip_all : (P : List ℕ → Type 0) → All P ss → All (λ (e : Entry). P e.1) (zip cs ss)
   zip_all P p i d h = rw (house_at i d h) (p i d.1 (omega (arith, length-zip cs ss)))
 
+  absent : (c : ℕ) → times c cs ≡ 0 → All (λ (f : Entry). c ≢ f.0) (zip cs ss)
+  absent c none i d h same =
+      let there = ap (λ (e : Entry). e.0) (house_at i d h) in
+      absurd (omega (arith, none, stands_once c cs i d.0 (omega (arith, length-zip cs ss)) (sym there ∙ sym same)))
+
   zip_pairs : (R : List ℕ → List ℕ → Type 0) → AllPairs R ss → AllPairs (λ (e f : Entry). R e.1 f.1) (zip cs ss)
   zip_pairs R r i j d less h = rw (house_at i d (omega arith), house_at j d h) (r i j d.1 less (omega (arith, length-zip cs ss)))
 
-  zip_once : All (λ (e : Entry). times e.0 cs < 2) (zip cs ss) → AllPairs (λ (e f : Entry). e.0 ≢ f.0) (zip cs ss)
-  zip_once single i j d less h same =
-      let once : times (get_or (zip cs ss) i d).0 cs < 2 = single i d (omega arith) in
+  zip_once : (codes : List ℕ) → ((c : ℕ) → times c cs ≤ times c codes) → All (λ (e : Entry). times e.0 codes < 2) (zip cs ss) → AllPairs (λ (e f : Entry). e.0 ≢ f.0) (zip cs ss)
+  zip_once codes fewer single i j d less h same =
+      let once : times (get_or (zip cs ss) i d).0 cs < 2 = omega (arith, fewer (get_or (zip cs ss) i d).0, single i d (omega arith)) in
       let first = ap (λ (e : Entry). e.0) (house_at i d (omega arith)) in
       let second = ap (λ (e : Entry). e.0) (house_at j d h) in
       absurd (omega (arith, stands_twice (get_or (zip cs ss) i d).0 cs i j d.0 less (omega (arith, length-zip cs ss)) (sym first) (sym second ∙ sym same)))
@@ -156,7 +114,7 @@ house_lawful below codes law h =
     let ok : All (Clear below codes) es = All-weaker (λ e. clash below codes e ≡ None) (Clear below codes) (clear below codes) es (none_clash below codes 0 es h) in
     record {
       once = pairs_append (λ (e f : Entry). e.0 ≢ f.0) es below
-          (zip_once codes house_strings (All-weaker (Clear below codes) (λ (e : Entry). times e.0 codes < 2) (λ e k. k.single) es ok))
+          (zip_once codes house_strings codes (λ c. omega arith) (All-weaker (Clear below codes) (λ (e : Entry). times e.0 codes < 2) (λ e k. k.single) es ok))
           law.once (All-weaker (Clear below codes) (λ (e : Entry). All (λ (f : Entry). e.0 ≢ f.0) below) (λ e k. k.new) es ok);
       unfixed = All-append (λ (e : Entry). is_fixed e.0 ≡ false) es below
           (All-weaker (Clear below codes) (λ (e : Entry). is_fixed e.0 ≡ false) (λ e k. k.free) es ok) law.unfixed;
@@ -191,7 +149,7 @@ lowest_number below codes n (e ∷ es) = go (clash below codes e) (lowest_number
     go (Some why) rest = refl
     go None rest = rest
 
-check_number : (below : Table) (codes : List ℕ) → refused (house_check below codes) ≡ house_refused below codes
+pub check_number : (below : Table) (codes : List ℕ) → refused (house_check below codes) ≡ house_refused below codes
 check_number below codes = go (nat_lt 5 (length codes))
   where
     go : (b : Bool) → refused (cond b (Err TooMany) (lowest_clash below codes 0 (house codes)))
@@ -199,8 +157,18 @@ check_number below codes = go (nat_lt 5 (length codes))
     go true = refl
     go false = lowest_number below codes 0 (house codes)
 
--- a list of at most five codes is answered by its lowest clash
-pub checked : (below : Table) (codes : List ℕ) (answer : Result (Unit {0}) HouseRefusal) → length codes ≤ 5 → answer ≡ lowest_clash below codes 0 (house codes) →
-    (answer ≡ house_check below codes) × (refused answer ≡ house_refused below codes)
-checked below codes answer few e =
-    let whole = e ∙ sym (cond-false _ _ _ (le-ltb 5 (length codes) few)) in (whole, ap refused whole ∙ check_number below codes)
+-- one code on, at its position
+pub lowest_more : (below : Table) (codes : List ℕ) (n : ℕ) → length codes ≤ 5 → n < length codes →
+    lowest_clash below codes n (drop n (house codes))
+    ≡ or_clash (clash below codes (slice_index codes n, slice_index_or house_strings n [])) n (lowest_clash below codes (n + 1) (drop (n + 1) (house codes)))
+lowest_more below codes n few h =
+    let k : n < length (house codes) = omega (arith, length-zip codes house_strings) in
+    let here : lowest_clash below codes n (drop n (house codes))
+    ≡ or_clash (clash below codes (slice_index_or (house codes) n (0, []))) n (lowest_clash below codes (suc n) (drop (n + 1) (house codes))) =
+    at_drop_more (lowest_clash below codes n) (house codes) n (0, []) k in
+    here ∙ (λ i. or_clash (clash below codes (house_at codes house_strings n (0, []) k i)) n (lowest_clash below codes (sym (add-one n) i) (drop (n + 1) (house codes))))
+
+-- a list that passes has at most five codes
+few_codes : (n : ℕ) (b : Bool) (r : Result (Unit {0}) HouseRefusal) → nat_lt 5 n ≡ b → is_ok (cond b (Err TooMany) r) ≡ true → n ≤ 5
+few_codes n true r q h = absurd (both_ways false refl h)
+few_codes n false r q h = ltb-false 5 n q
