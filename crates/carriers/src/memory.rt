@@ -4,7 +4,7 @@ ghost use Rattle.carriers.specs.Tapes.{Memory};
 
 use std::marker::Model;
 
-// The memory is the caller's, who gets it back parted, so it is kept whole beside where the pressed bytes end.
+// The memory is the caller's, who gets it back in two parts; so it is kept whole, with the number of bytes pressed.
 #[derive(Drop)]
 pub(crate) struct PressedMemory<'a> {
     bytes: &'a mut [u8],
@@ -37,7 +37,7 @@ impl<'a> PressedMemory<'a> {
         &self.bytes[0..self.end]
     }
 
-    // How many bytes are left behind.
+    // How many bytes are not pressed yet.
     pub(crate) fn room(&self) -> usize
         ensures count { result ≡ length self.now.unused }
         ensures fits { length self.now.pressed + length self.now.unused < 2 ^ 63 }
@@ -45,7 +45,7 @@ impl<'a> PressedMemory<'a> {
         self.bytes.len() - self.end
     }
 
-    // Presses these bytes; or says no where fewer are left, and moves nothing.
+    // Presses these bytes; or says no where fewer are free, and moves nothing.
     pub(crate) fn press(&mut self, group: &[u8]) -> bool
         ensures answer { result ≡ nat_le (length group.now) (length self.old.unused) }
         ensures pressed { self.new.pressed ≡ (if result then self.old.pressed ++ group.now else self.old.pressed) }

@@ -10,7 +10,7 @@ use cells::strip::{Embosser, Place, Strip};
 use std::marker::PhantomData;
 
 // Lent memory, pressed. What it held before is no place, and bytes that are no whole group are never touched. Of every tape
-// it is so that no place is spoilt, that its bytes are whole groups, and that its memory is no longer than a slice may be.
+// it holds that no place is spoilt, that its bytes are whole groups, and that its memory is no longer than a slice may be.
 #[derive(Drop)]
 pub struct CarrierTape<'a, C: CellCode<WIDTH>, const WIDTH: usize> {
     memory: PressedMemory<'a>,

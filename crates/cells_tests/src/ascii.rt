@@ -46,7 +46,7 @@ fn cells_and_bytes(rt: HostRuntime) {
     );
 }
 
-// A tape's calls tell that this sum can't be too large.
+// Of every tape it is known that this sum can't be too large.
 fn total(tape: &AsciiTape<'_>) -> usize {
     tape.len() + tape.free()
 }

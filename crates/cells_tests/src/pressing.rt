@@ -5,6 +5,7 @@ ghost use Rattle.carriers.specs.Carriers.{ascii_places};
 
 use crate::alike::alike;
 use carriers::ascii::{AsciiStrip, AsciiTape};
+use carriers::unicode::UnicodeTape;
 use cells::copy::{copy_strip, press_all};
 use cells::display::BrailleDisplay;
 use cells::refusal::CopyRefusal;
@@ -50,7 +51,7 @@ fn shown_on(display: &mut BrailleDisplay) -> bool
 }
 
 fn copied_on(tape: &mut AsciiTape<'_>) -> bool
-    ensures { all_cells (ascii_places tape.new.memory.pressed) ≡ true }
+    ensures { all_cells (ascii_places tape.new.tape.memory.pressed) ≡ true }
 {
     copy_strip(&AsciiStrip::new(b"AB"), tape).is_ok()
 }
@@ -62,6 +63,27 @@ fn known_with_no_call(rt: HostRuntime) {
     let mut memory = [b'~'; 3];
     let mut tape = AsciiTape::new(&mut memory);
     assert!(rt; copied_on(&mut tape) && !copied_on(&mut tape) && tape.len() == 2);
+}
+
+fn how_long(strip: &dyn Strip) -> usize {
+    strip.len()
+}
+
+fn pressed_on(to: &mut dyn Embosser) -> bool {
+    to.press(3)
+}
+
+#[test]
+fn embossers_behind_dyn(rt: HostRuntime) {
+    let mut display = BrailleDisplay::new();
+    assert!(rt; pressed_on(&mut display) && how_long(&display) == 1);
+    let mut memory = [b'~'; 3];
+    let mut tape = AsciiTape::new(&mut memory);
+    assert!(rt; pressed_on(&mut tape) && how_long(&tape) == 1);
+    let mut memory = [b'~'; 3];
+    let mut tape = UnicodeTape::new(&mut memory);
+    assert!(rt; pressed_on(&mut tape) && !pressed_on(&mut tape) && how_long(&tape) == 1);
+    assert!(rt; how_long(&AsciiStrip::new(b"AB")) == 2);
 }
 
 #[test]

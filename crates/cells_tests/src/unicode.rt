@@ -45,7 +45,7 @@ fn cut_off_groups_are_spoilt(rt: HostRuntime) {
     assert!(rt; none.len() == 0 && none.at(0) == None && none.at(usize::MAX) == None);
 }
 
-// A tape's calls tell that this product can't be too large.
+// Of every tape it is known that this product can't be too large.
 fn free_bytes(tape: &UnicodeTape<'_>) -> usize {
     3 * tape.free()
 }
